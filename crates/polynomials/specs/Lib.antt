@@ -1,0 +1,9 @@
+pub mod Primes
+pub mod Monomials
+pub mod MonomialOrders
+pub mod Polynomials
+pub mod Equalities
+pub mod Views
+pub mod Fits
+pub mod Rings
+pub mod Laws
