@@ -1,0 +1,25 @@
+//! Bytes in and out, with a count of the faults of each end.
+#![tactic(auto)]
+
+mod failed;
+mod input;
+mod mem_sink;
+mod mem_source;
+mod output;
+mod sink;
+mod source;
+mod std_sink;
+mod std_source;
+
+pub use failed::Failed;
+pub use input::{Input, ReadFail, read_all};
+pub use mem_sink::MemSink;
+pub use mem_source::MemSource;
+pub use output::write_all;
+pub use sink::Sink;
+pub use source::Source;
+pub use std_sink::StdSink;
+pub use std_source::StdSource;
+
+#[cfg(test)]
+mod tests;
