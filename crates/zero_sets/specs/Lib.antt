@@ -1,0 +1,5 @@
+pub mod Domains
+pub mod ZeroSets
+pub mod Certificates
+pub mod Tasks
+pub mod Laws
