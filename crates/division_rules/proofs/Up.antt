@@ -1,0 +1,90 @@
+-- Canonical lists of terms are those of canonical polynomials, and so are rows of them.
+use Rattle.std.proofs.Common.{◌≡◌, ℕ, ◌<◌, List, [], ◌∷◌, Option, Some, None, option_map, refl, ap, ap₂, subst}
+use Rattle.polynomials.specs.Polynomials.{Polynomial, IsPolynomial, ArePolynomials}
+use Rattle.polynomials.proofs.PolynomialRing.{CanonicalPolynomial}
+use Rattle.division_rules.specs.Rows.{Row, plains}
+use Rattle.division_rules.specs.RemainderRows.{Rows}
+use Rattle.division_rules.specs.Chains.{IfRow}
+use Rattle.division_rules.specs.PolynomialRows.{IsPolynomialRow, ArePolynomialRows, AreRemainderRows}
+use Rattle.division_rules.proofs.Down.{terms, terms_all, down, down_all}
+use Rattle.division_rules.proofs.DownRows.{down_rows}
+
+-- what is there is the same
+some_same : {X : Type 0} (x y : X) → Some x ≡ Some y → x ≡ y
+some_same x y e = cc
+
+module _ (p n : ℕ) (many : 1 < p) where
+  -- canonical lists of terms as canonical polynomials
+  abbrev pub up_all : (fs : List Polynomial) → ArePolynomials p n fs → List (CanonicalPolynomial p n)
+  up_all [] are = []
+  up_all (f ∷ fs) are = (f, are.0) ∷ up_all fs are.1
+
+  -- a row of them
+  abbrev pub up : (f : Row Polynomial) → IsPolynomialRow p n f → Row (CanonicalPolynomial p n)
+  up f i = record { first = (f.first, i.0); cofactors = up_all f.cofactors i.1 }
+
+  -- rows of them
+  abbrev pub up_rows : (fs : List (Row Polynomial)) → ArePolynomialRows p n fs → List (Row (CanonicalPolynomial p n))
+  up_rows [] are = []
+  up_rows (f ∷ fs) are = up f are.0 ∷ up_rows fs are.1
+
+  -- their lists of terms are what they were made of
+  pub terms-up_all : (fs : List Polynomial) (are : ArePolynomials p n fs) → terms_all p n many (up_all fs are) ≡ fs
+  terms-up_all [] are = refl
+  terms-up_all (f ∷ fs) are = ap (λ x. f ∷ x) (terms-up_all fs are.1)
+
+  -- so is a row
+  pub down-up : (f : Row Polynomial) (i : IsPolynomialRow p n f) → down p n many (up f i) ≡ f
+  down-up f i = ap (λ cs. record { first = f.first; cofactors = cs }) (terms-up_all f.cofactors i.1)
+
+  -- and a list of rows
+  pub down-up_rows : (fs : List (Row Polynomial)) (are : ArePolynomialRows p n fs) → down_all p n many (up_rows fs are) ≡ fs
+  down-up_rows [] are = refl
+  down-up_rows (f ∷ fs) are = ap₂ ◌∷◌ (down-up f are.0) (down-up_rows fs are.1)
+
+  -- the lists of terms of canonical polynomials are canonical
+  pub terms_canonical : (fs : List (CanonicalPolynomial p n)) → ArePolynomials p n (terms_all p n many fs)
+  terms_canonical [] = tt
+  terms_canonical (f ∷ fs) = (f.1, terms_canonical fs)
+
+  -- a row of them
+  pub down_canonical : (f : Row (CanonicalPolynomial p n)) → IsPolynomialRow p n (down p n many f)
+  down_canonical f = (f.first.1, terms_canonical f.cofactors)
+
+  -- a list of rows of them
+  pub down_all_canonical : (fs : List (Row (CanonicalPolynomial p n))) → ArePolynomialRows p n (down_all p n many fs)
+  down_all_canonical [] = tt
+  down_all_canonical (f ∷ fs) = (down_canonical f, down_all_canonical fs)
+
+  -- canonical lists of terms as rows without cofactors
+  pub plains_canonical : (fs : List Polynomial) → ArePolynomials p n fs → ArePolynomialRows p n (plains fs)
+  plains_canonical [] are = tt
+  plains_canonical (f ∷ fs) are = ((are.0, tt), plains_canonical fs are.1)
+
+  -- remainder rows of canonical polynomials are canonical
+  pub down_rows_canonical : (rows : Rows (CanonicalPolynomial p n)) → AreRemainderRows p n (down_rows p n many rows)
+  down_rows_canonical rows = (down_all_canonical rows.later, last rows.last)
+    where
+      last : (z : Option (Row (CanonicalPolynomial p n))) → IfRow (IsPolynomialRow p n) (option_map (down p n many) z)
+      last None = tt
+      last (Some f) = down_canonical f
+
+  -- and what is there of an option
+  pub if_canonical : (x : Option (CanonicalPolynomial p n)) (f : Polynomial) → option_map (terms p n many) x ≡ Some f → IsPolynomial p n f
+  if_canonical None f e = cc
+  if_canonical (Some g) f e = subst (IsPolynomial p n) (some_same g.0 f e) g.1
+
+  -- a list
+  pub if_all_canonical : (xs : Option (List (CanonicalPolynomial p n))) (fs : List Polynomial) → option_map (terms_all p n many) xs ≡ Some fs → ArePolynomials p n fs
+  if_all_canonical None fs e = cc
+  if_all_canonical (Some gs) fs e = subst (ArePolynomials p n) (some_same (terms_all p n many gs) fs e) (terms_canonical gs)
+
+  -- a row
+  pub if_row_canonical : (x : Option (Row (CanonicalPolynomial p n))) (f : Row Polynomial) → option_map (down p n many) x ≡ Some f → IsPolynomialRow p n f
+  if_row_canonical None f e = cc
+  if_row_canonical (Some g) f e = subst (IsPolynomialRow p n) (some_same (down p n many g) f e) (down_canonical g)
+
+  -- remainder rows
+  pub if_rows_canonical : (x : Option (Rows (CanonicalPolynomial p n))) (rows : Rows Polynomial) → option_map (down_rows p n many) x ≡ Some rows → AreRemainderRows p n rows
+  if_rows_canonical None rows e = cc
+  if_rows_canonical (Some g) rows e = subst (AreRemainderRows p n) (some_same (down_rows p n many g) rows e) (down_rows_canonical g)

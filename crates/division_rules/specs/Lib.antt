@@ -1,0 +1,17 @@
+pub mod Operations
+pub mod Rows
+pub mod Within
+pub mod Quotients
+pub mod Lists
+pub mod Laws
+pub mod Chains
+pub mod RemainderRows
+pub mod RemainderRowsWithin
+pub mod Turns
+pub mod Units
+pub mod Points
+pub mod Cofactors
+pub mod Factors
+pub mod PolynomialRows
+pub mod Triangular
+pub mod Statements

@@ -1,0 +1,21 @@
+-- Rows over named generators: what their cofactors say, and the generators themselves as rows.
+use Rattle.std.specs.Prelude.{◌≡◌, ℕ, suc, List, [], ◌∷◌, ◌++◌, length, replicate}
+use Rattle.division_rules.specs.Operations.{Operations}
+use Rattle.division_rules.specs.Rows.{Row, combined}
+
+module _ {A : Type 0} (o : Operations A) where
+  -- f has a cofactor for each generator, and its first entry is the sum of their products
+  pub record IsCombinationOf (generators : List A) (f : Row A) : Type 0 where
+    pub one_each : length f.cofactors ≡ length generators
+    pub identity : f.first ≡ combined o f.cofactors generators
+
+  -- generators as rows, with the cofactor 1 at themselves, where others stand before them
+  abbrev pub unit_rows : ℕ → List A → List (Row A)
+  unit_rows before [] = []
+  unit_rows before (f ∷ fs) = record { first = f; cofactors = replicate before o.nil ++ o.one ∷ replicate (length fs) o.nil } ∷ unit_rows (suc before) fs
+
+  -- the sums of the entries of two lists at the same places
+  abbrev pub entrywise_sum : List A → List A → List A
+  entrywise_sum [] ds = []
+  entrywise_sum (c ∷ cs) [] = []
+  entrywise_sum (c ∷ cs) (d ∷ ds) = o.plus c d ∷ entrywise_sum cs ds
