@@ -1,0 +1,5 @@
+mod Lanes
+mod Carries
+mod Places
+mod WordOrder
+mod Largest
