@@ -1,0 +1,11 @@
+pub mod Lists
+pub mod Orders
+pub mod EventOrder
+pub mod OfferOrder
+pub mod Walks
+pub mod Runs
+pub mod Closed
+pub mod Unfolds
+pub mod Answers
+pub mod Texts
+pub mod Examples
