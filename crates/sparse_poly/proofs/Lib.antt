@@ -1,0 +1,14 @@
+pub mod Moduli
+pub mod Sums
+pub mod Collecting
+pub mod Products
+pub mod SortedTerms
+pub mod Places
+pub mod MergeTurns
+pub mod JoinTurns
+pub mod Passes
+pub mod FittingPairs
+pub mod FirstVariables
+pub mod ValueClauses
+pub mod FirstItems
+pub mod PowerMonomials

@@ -1,0 +1,18 @@
+-- A power of a variable fits with monomials where the degree has room.
+use Rattle.std.proofs.Common.{◌≡◌, ◌≢◌, ◌+◌, ◌<◌, ◌≤◌, ℕ, max, List, [], ◌∷◌, replicate, set, sym, ap, ◌∙◌, inl, inr, subst, arith}
+use Rattle.std.proofs.lemmas.Bool.{cases_eq}
+use Rattle.polynomials.specs.Monomials.{Monomial, exponent_of}
+use Rattle.polynomials.specs.Polynomials.{Term, term}
+use Rattle.polynomials.specs.Views.{degree_in}
+use Rattle.polynomials.proofs.Exponents.{power_monomial, exponent_of-power_monomial, exponent_of-power_monomial_other}
+use Rattle.sparse_poly.specs.Pairs.{FitsEach}
+use Rattle.sparse_poly.proofs.FittingPairs.{FitsEach-from_degrees}
+
+pub FitsEach-power : (n v e : ℕ) (g : List Term) → v < n → ((w : ℕ) → degree_in w g ≤ 65535) → e + degree_in v g ≤ 65535 → FitsEach (power_monomial n v e) g
+FitsEach-power n v e g below most room = FitsEach-from_degrees (power_monomial n v e) g each
+  where
+    each : (w : ℕ) → exponent_of w (power_monomial n v e) + degree_in w g ≤ 65535
+    each w = elim (cases_eq w v) [
+      | inl same ↦ subst (λ x. exponent_of x (power_monomial n v e) + degree_in x g ≤ 65535) (sym same) (let itself = exponent_of-power_monomial n v e below in omega arith)
+      | inr other ↦ let none = exponent_of-power_monomial_other n v w e other in let bound = most w in omega arith
+    ]

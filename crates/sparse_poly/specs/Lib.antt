@@ -1,0 +1,4 @@
+pub mod Signs
+pub mod Pairs
+pub mod Falling
+pub mod Values

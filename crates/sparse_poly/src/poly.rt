@@ -1,0 +1,131 @@
+ghost use Rattle.std.specs.Prelude.{◌≡◌, ◌<◌, ◌^◌, ◌↔◌, [], length, All, IfOk, IsTrue};
+ghost use Rattle.std.specs.Cmp.{partial_equiv_from_equiv};
+ghost use Rattle.polynomials.specs.Equalities.{same_polynomial_equivalence};
+ghost use Rattle.polynomials.specs.Polynomials.{Term, IsPolynomial, collected, constant_of, same_polynomial};
+
+use crate::collect::collected;
+use field_table::Field;
+use mono_words::{Mono, VARS};
+use std::alloc::{AllocError, Global};
+use std::marker::Model;
+
+/// A polynomial in `VARS` variables: its terms, the greatest monomial first, each coefficient from
+/// 1 to p - 1 where it is over the field of p elements.
+#[derive(Debug, Drop)]
+pub struct Poly {
+    terms: Vec<(Mono, u32)>,
+}
+
+impl Model for Poly {
+    ghost use Rattle.std.specs.Prelude.{◌^◌, List};
+    ghost use Rattle.mono_words.specs.declared.mono.TheConstants.{VARS};
+    ghost use Rattle.polynomials.specs.Polynomials.{Term, IsPolynomial};
+
+    ghost Value = { List Term };
+
+    ghost view = { λ f. f.terms.items };
+
+    ghost invariant = { λ f. IsPolynomial (2 ^ 32) VARS f.terms.items };
+}
+
+impl Poly {
+    /// The polynomial of terms in canonical form.
+    pub(crate) fn of(terms: Vec<(Mono, u32)>) -> Poly
+        requires { IsPolynomial (2 ^ 32) VARS terms.items }
+        ensures { result ≡ terms.items }
+    {
+        Poly { terms }
+    }
+
+    /// The polynomial of terms in canonical form over a field.
+    pub(crate) fn over(f: Field, terms: Vec<(Mono, u32)>) -> Poly
+        requires { IsPolynomial f VARS terms.items }
+        ensures { result ≡ terms.items }
+    {
+        // Tells that coefficients fit their type.
+        let _ = f.prime();
+        Poly { terms }
+    }
+
+    /// The allocator of the terms.
+    pub(crate) fn alloc(&self) -> Global {
+        *self.terms.allocator()
+    }
+
+    /// The polynomial 0.
+    pub fn zero(alloc: Global) -> Poly
+        ensures { result ≡ [] }
+    {
+        Poly {
+            terms: Vec::new(alloc),
+        }
+    }
+
+    /// The constant `c`: no term where it is 0, else one.
+    pub fn constant(alloc: Global, f: Field, c: u32) -> Result<Poly, AllocError>
+        requires { c < f }
+        ensures value { IfOk result (λ r. r ≡ constant_of VARS c) }
+        ensures over { IfOk result (IsPolynomial f VARS) }
+    {
+        let mut terms = Vec::new(alloc);
+        if c != 0 {
+            terms.push((Mono::one(), c))?;
+        }
+        Ok(Poly { terms })
+    }
+
+    /// The sum of terms in any order; monomials may repeat, coefficients may be 0.
+    pub fn from_terms(alloc: Global, f: Field, terms: &[(Mono, u32)]) -> Result<Poly, AllocError>
+        requires { All (λ t. t.1 < f) terms.now }
+        ensures value { IfOk result (λ r. r ≡ collected f terms.now) }
+        ensures over { IfOk result (IsPolynomial f VARS) }
+    {
+        Ok(Poly::over(f, collected(alloc, f, terms)?))
+    }
+
+    /// The terms, the greatest monomial first.
+    pub fn terms(&self) -> &[(Mono, u32)]
+        ensures terms { result.now ≡ self.now }
+        ensures canonical { IsPolynomial (2 ^ 32) VARS self.now }
+    {
+        &self.terms
+    }
+
+    /// Whether this is 0, which has no terms.
+    pub fn is_zero(&self) -> bool
+        ensures { IsTrue result ↔ (self.now ≡ []) }
+    {
+        self.terms.is_empty()
+    }
+
+    /// The number of terms, each of a monomial of its own.
+    pub fn term_count(&self) -> usize
+        ensures { result ≡ length self.now }
+    {
+        self.terms.len()
+    }
+
+    /// An equal polynomial, its terms taking memory of their own.
+    pub fn copy(&self) -> Result<Poly, AllocError>
+        ensures { IfOk result (λ r. r ≡ self.now) }
+    {
+        Ok(Poly {
+            terms: self.terms.clone()?,
+        })
+    }
+}
+
+/// Equal polynomials have the same terms.
+impl PartialEq for Poly {
+    ghost eq = { same_polynomial };
+
+    ghost laws = { partial_equiv_from_equiv same_polynomial_equivalence };
+
+    fn eq(&self, other: &Poly) -> bool {
+        self.terms == other.terms
+    }
+}
+
+impl Eq for Poly {
+    ghost laws = { same_polynomial_equivalence };
+}

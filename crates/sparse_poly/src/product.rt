@@ -1,0 +1,80 @@
+ghost use Rattle.std.specs.Prelude.{◌≡◌, ◌<◌, [], ◌∷◌, IfOk};
+ghost use Rattle.polynomials.specs.Polynomials.{IsPolynomial, product_of, scaled};
+ghost use Rattle.sparse_poly.specs.Pairs.{FitsEach, PairsFit};
+
+use crate::merge::{Sign, merged};
+use field_table::Field;
+use mono_words::{Mono, VARS};
+use std::alloc::{AllocError, Global};
+
+/// A term times a polynomial, whose order stays.
+pub fn term_times(
+    alloc: Global,
+    f: Field,
+    t: (Mono, u32),
+    g: &[(Mono, u32)],
+) -> Result<Vec<(Mono, u32)>, AllocError>
+    requires term { IsPolynomial f VARS (t ∷ []) }
+    requires over { IsPolynomial f VARS g.now }
+    requires fit { FitsEach t.0 g.now }
+    ensures value { IfOk result (λ r. r.items ≡ product_of f (t ∷ []) g.now) }
+    ensures over { IfOk result (λ r. IsPolynomial f VARS r.items) }
+{
+    // Tells that the modulus is prime.
+    let _ = f.prime();
+    let (monomial, c) = t;
+    let mut out = Vec::with_capacity(alloc, g.len())?;
+    for u in g {
+        out.push((monomial.product(u.0), f.mul(c, u.1)))?;
+    }
+    Ok(out)
+}
+
+/// The residue `c` other than 0 times a polynomial.
+pub fn scaled(
+    alloc: Global,
+    f: Field,
+    c: u32,
+    g: &[(Mono, u32)],
+) -> Result<Vec<(Mono, u32)>, AllocError>
+    requires nonzero { 0 < c }
+    requires below { c < f }
+    requires over { IsPolynomial f VARS g.now }
+    ensures value { IfOk result (λ r. r.items ≡ scaled f c g.now) }
+    ensures over { IfOk result (λ r. IsPolynomial f VARS r.items) }
+{
+    // Tells that the modulus is prime.
+    let _ = f.prime();
+    let mut out = Vec::with_capacity(alloc, g.len())?;
+    for u in g {
+        out.push((u.0, f.mul(c, u.1)))?;
+    }
+    Ok(out)
+}
+
+/// The product, by a balanced tree of merges of the terms of `short` times `long`.
+pub fn product(
+    alloc: Global,
+    f: Field,
+    short: &[(Mono, u32)],
+    long: &[(Mono, u32)],
+) -> Result<Vec<(Mono, u32)>, AllocError>
+    requires left { IsPolynomial f VARS short.now }
+    requires right { IsPolynomial f VARS long.now }
+    requires fit { PairsFit short.now long.now }
+    ensures value { IfOk result (λ r. r.items ≡ product_of f short.now long.now) }
+    ensures over { IfOk result (λ r. IsPolynomial f VARS r.items) }
+{
+    // Tells that the modulus is prime.
+    let _ = f.prime();
+    if short.is_empty() {
+        return Ok(Vec::new(alloc));
+    }
+    if short.len() == 1 {
+        return term_times(alloc, f, short[0], long);
+    }
+    let (left, right) = short.split_at(short.len() / 2);
+    let left = product(alloc, f, left, long)?;
+    let right = product(alloc, f, right, long)?;
+    merged(alloc, f, &left, Sign::Plus, &right)
+}

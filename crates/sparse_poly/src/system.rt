@@ -1,0 +1,20 @@
+use crate::poly::Poly;
+use field_table::Field;
+use item_lists::Items;
+
+/// A list of polynomials.
+pub type Polys = Items<Poly>;
+
+/// The names of the variables, the least first.
+pub type Names = Items<String>;
+
+/// Polynomials whose common zeros are sought, over a field, with the names of their variables.
+#[derive(Debug, Drop)]
+pub struct System {
+    /// What the coefficients are taken from.
+    pub field: Field,
+    /// The name of the variable `v` at the place `v`.
+    pub names: Names,
+    /// The polynomials, in the order in which they were given; they may repeat or be 0.
+    pub inputs: Polys,
+}

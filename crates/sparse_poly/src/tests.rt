@@ -1,0 +1,132 @@
+ghost use Rattle.std.specs.Prelude.{IfOk};
+ghost use Rattle.polynomials.specs.Polynomials.{IsPolynomial};
+
+use super::*;
+use field_table::Field;
+use mono_words::{Mono, VARS};
+use std::alloc::{AllocError, Global};
+use std::test::Fail;
+
+/// The polynomial with the terms `c x^d y^e z^g` of a list.
+fn poly(alloc: Global, f: Field, terms: &[(u32, u16, u16, u16)]) -> Result<Poly, AllocError>
+    ensures { IfOk result (IsPolynomial f VARS) }
+{
+    let mut list = Vec::new(alloc);
+    for (c, d, e, g) in terms {
+        let x = Mono::power(0, *d);
+        let y = Mono::power(1, *e);
+        let z = Mono::power(2, *g);
+        if *c < f.prime() {
+            list.push((x.max_exponents(y).max_exponents(z), *c))?;
+        }
+    }
+    Poly::from_terms(alloc, f, &list)
+}
+
+#[test]
+fn operations_agree_with_sums_done_by_hand(rt: HostRuntime) -> Result<(), Fail> {
+    let alloc = rt.alloc();
+    let f = Field::of(5)?;
+    let curve = poly(alloc, f, &[(1, 1, 2, 0), (1, 0, 1, 0), (1, 0, 0, 0)])?;
+    let x = poly(
+        alloc,
+        f,
+        &[(3, 1, 0, 0), (2, 0, 0, 0), (3, 1, 0, 0), (3, 0, 0, 0)],
+    )?;
+    let tail = poly(alloc, f, &[(1, 0, 1, 0), (1, 0, 0, 0)])?;
+    let line = poly(alloc, f, &[(1, 0, 0, 0), (4, 1, 0, 0)])?;
+    let other = poly(alloc, f, &[(4, 0, 0, 0), (1, 1, 0, 0)])?;
+    let difference = poly(alloc, f, &[(3, 1, 0, 0), (2, 0, 0, 0)])?;
+    let three = poly(alloc, f, &[(3, 0, 0, 0)])?;
+
+    assert!(rt; curve.lead_in(1)? == x);
+    assert!(rt; curve.tail_in(1)? == tail);
+    assert!(rt; line.monic(f)? == other);
+    assert!(rt; Poly::constant(alloc, f, 3)? == three);
+    assert!(rt; curve.copy()? == curve);
+    assert!(rt; line.sub(f, &other)? == difference);
+    assert!(rt; line.add(f, &other)?.is_zero());
+    assert_eq!(rt; curve.main_var(), Some(1));
+    assert!(rt; three.is_constant());
+    assert_eq!(rt; curve.degree_in(1), 2);
+    assert_eq!(rt; curve.term_count(), 3);
+    Ok(())
+}
+
+#[test]
+fn products_agree_with_sums_done_by_hand(rt: HostRuntime) -> Result<(), Fail> {
+    let alloc = rt.alloc();
+    for (p, width, left, right, product) in [
+        // A square modulo 2 is the sum of the squares.
+        (
+            2,
+            9,
+            [(1, 1, 0, 0), (1, 0, 1, 0), (1, 0, 0, 1)],
+            [(1, 1, 0, 0), (1, 0, 1, 0), (1, 0, 0, 1)],
+            [(1, 2, 0, 0), (1, 0, 2, 0), (1, 0, 0, 2), (0, 0, 0, 0)],
+        ),
+        // (x - y) (x + y + z)
+        (
+            32003,
+            6,
+            [(1, 1, 0, 0), (32002, 0, 1, 0), (0, 0, 0, 0)],
+            [(1, 1, 0, 0), (1, 0, 1, 0), (1, 0, 0, 1)],
+            [
+                (1, 2, 0, 0),
+                (1, 1, 0, 1),
+                (32002, 0, 2, 0),
+                (32002, 0, 1, 1),
+            ],
+        ),
+        // (256 x + y z) (256 x - y z), where 256 is a root of -1
+        (
+            65537,
+            4,
+            [(256, 1, 0, 0), (1, 0, 1, 1), (0, 0, 0, 0)],
+            [(256, 1, 0, 0), (65536, 0, 1, 1), (0, 0, 0, 0)],
+            [
+                (65536, 2, 0, 0),
+                (65536, 0, 2, 2),
+                (0, 0, 0, 0),
+                (0, 0, 0, 0),
+            ],
+        ),
+    ] {
+        let field = Field::of(p)?;
+        let left = poly(alloc, field, &left)?;
+        let right = poly(alloc, field, &right)?;
+        let product = poly(alloc, field, &product)?;
+        let narrow = Work {
+            field,
+            width: width - 1,
+        };
+        let wide = Work { field, width };
+        assert!(rt; left.mul(narrow, &right)?.is_none());
+        assert!(rt; left.mul(wide, &right)?.is_some_and(|made| made == product));
+    }
+    Ok(())
+}
+
+fn crosses_threads<T: Send + Sync + Drop>(_value: T) {}
+
+#[test]
+fn a_system_is_made_and_read_and_may_cross_threads(rt: HostRuntime) -> Result<(), Fail> {
+    let alloc = rt.alloc();
+    let field = Field::of(7)?;
+    let mut names = Names::new(alloc);
+    names.push(format!(in alloc; "x")?)?;
+    let mut inputs = Polys::new(alloc);
+    inputs.push(Poly::constant(alloc, field, 6)?)?;
+    let system = System {
+        field,
+        names,
+        inputs,
+    };
+    assert_eq!(rt; system.field.prime(), 7);
+    assert_eq!(rt; system.names.count(), 1);
+    assert_eq!(rt; system.inputs.count(), 1);
+    crosses_threads(system);
+    crosses_threads(Work { field, width: 1 });
+    crosses_threads(Poly::zero(alloc));
+    Ok(())
+}
