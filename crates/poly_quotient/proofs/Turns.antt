@@ -1,0 +1,117 @@
+-- The turns of a division from the greatest term down: when it stops, goes on and ends.
+use Rattle.std.proofs.Common.{◌≡◌, ◌≢◌, ◌⊎◌, ℕ, ◌+◌, ◌-◌, ◌*◌, ◌%◌, ◌<◌, ◌≤◌, Bool, true, false, [], ◌∷◌, ◌++◌, length, drop, get_or, mul-le-mul, Some, None, refl, sym, ap, ap₂, ◌∙◌, subst, inl, inr, length-append, arith}
+use Rattle.std.proofs.lemmas.Bool.{cases_lt}
+use Rattle.polynomials.specs.Primes.{IsPrime, inverse_of}
+use Rattle.polynomials.specs.Monomials.{Monomial, exponent_of, monomial_product, MonomialDivides}
+use Rattle.polynomials.specs.Polynomials.{Term, term, Polynomial, IsPolynomial, product_of, difference_of}
+use Rattle.polynomials.specs.Views.{degree_in}
+use Rattle.polynomials.specs.Fits.{fits}
+use Rattle.polynomials.proofs.FitsLemmas.{fits_in_each_variable}
+use Rattle.division_rules.specs.Quotients.{monomial_divides, monomial_over, term_over, quotient_within}
+use Rattle.division_rules.proofs.TermQuotients.{monomial_divides_iff, monomial_over-product}
+use Rattle.division_rules.proofs.QuotientCases.{quotient_within_none, fits_by_terms}
+use Rattle.division_rules.proofs.Divisions.{IsDivision, division_begins, first_quotient_canonical}
+use Rattle.division_rules.proofs.DivisionSteps.{division_continues, division_ends, division_fits, division_stops, division_too_long, division_too_high}
+
+-- what stands at the first place of what isn't 0 comes first
+pub first_of : (s f : Polynomial) (t : Term) → s ≡ f → f ≢ [] → t ≡ get_or s 0 t → f ≡ t ∷ drop 1 f
+first_of s [] t same some is = absurd (some refl)
+first_of s (x ∷ f) t same some is = ap (λ y. y ∷ f) (sym (subst (λ (l : Polynomial). t ≡ get_or l 0 t) same is))
+
+-- one more term leaves less room
+pub less_room : (k m w k' : ℕ) → 0 < m → (k + 1) * m ≤ w → k' ≡ k + 1 → w - k' < w - k
+less_room k m w k' some short more =
+    let grows : (k + 1) * 1 ≤ (k + 1) * m = mul-le-mul (omega arith) (omega arith) in
+    omega arith
+
+module _ (p n w : ℕ) (prime : IsPrime p) (a b : Polynomial) (u : Term) (i : IsPolynomial p n a) (j : IsPolynomial p n b) (some : a ≢ []) (whole : b ≡ u ∷ drop 1 b) where
+  positive : 0 < p
+  positive = omega (arith, prime.many)
+
+  j_whole : IsPolynomial p n (u ∷ drop 1 b)
+  j_whole = subst (IsPolynomial p n) whole j
+
+  -- where there is no quotient by the first term and the others, there is none
+  none_of_whole : quotient_within p w a (u ∷ drop 1 b) ≡ None → quotient_within p w a b ≡ None
+  none_of_whole h = ap (quotient_within p w a) whole ∙ h
+
+  -- a division begins without a term
+  pub begins : (ts rest : Polynomial) → ts ≡ [] → rest ≡ a → IsDivision p n u (drop 1 b) a ts rest
+  begins ts rest no_term all =
+      subst (λ k. IsDivision p n u (drop 1 b) a k rest) (sym no_term)
+      (subst (λ r. IsDivision p n u (drop 1 b) a [] r) (sym all) (division_begins p n u (drop 1 b) a positive i))
+
+  -- a term is the quotient of two others where its product by one is the other
+  pub term_is : (t s : Term) → length s.0 ≡ n → monomial_product s.0 u.0 ≡ t.0 → s.1 ≡ t.1 * inverse_of p u.1 % p → s ≡ term_over p t u
+  term_is t s long product over = ap₂ term (sym (sym (ap (λ m. monomial_over m u.0) product) ∙ monomial_over-product u.0 s.0 (j_whole.0 ∙ sym long))) over
+
+  module _ (ts rest : Polynomial) (t : Term) (first : rest ≡ t ∷ drop 1 rest) (d : IsDivision p n u (drop 1 b) a ts rest) where
+    e : IsDivision p n u (drop 1 b) a ts (t ∷ drop 1 rest)
+    e = subst (λ r. IsDivision p n u (drop 1 b) a ts r) first d
+
+    -- the test of divisibility is that of exponents
+    divides_test : MonomialDivides u.0 t.0 → monomial_divides u.0 t.0 ≡ true
+    divides_test h = (monomial_divides_iff u.0 t.0 (j_whole.0 ∙ sym e.rest_canonical.0)).1 h
+
+    -- there is no quotient where the first term isn't a multiple
+    pub stops_undivided : (MonomialDivides u.0 t.0 → ⊥) → quotient_within p w a b ≡ None
+    stops_undivided undivided = none_of_whole (division_stops p n prime u (drop 1 b) j_whole a w i ts t (drop 1 rest) e (go (monomial_divides u.0 t.0) refl))
+      where
+        go : (c : Bool) → monomial_divides u.0 t.0 ≡ c → monomial_divides u.0 t.0 ≡ false
+        go false h = h
+        go true h = absurd (undivided ((monomial_divides_iff u.0 t.0 (j_whole.0 ∙ sym e.rest_canonical.0)).0 h))
+
+    -- nor where one more term is too many
+    pub stops_long : w < (length ts + 1) * length b → quotient_within p w a b ≡ None
+    stops_long long = go (monomial_divides u.0 t.0) refl
+      where
+        s : Term
+        s = term_over p t u
+
+        go : (c : Bool) → monomial_divides u.0 t.0 ≡ c → quotient_within p w a b ≡ None
+        go false h = none_of_whole (division_stops p n prime u (drop 1 b) j_whole a w i ts t (drop 1 rest) e h)
+        go true h = none_of_whole (division_too_long p n prime u (drop 1 b) j_whole a w i (ts ++ s ∷ []) (difference_of p (t ∷ drop 1 rest) (product_of p (s ∷ []) (u ∷ drop 1 b))) (division_continues p n prime u (drop 1 b) j_whole a ts t (drop 1 rest) h e) some (subst (λ k. w < k) (ap₂ ◌*◌ (sym (length-append ts (s ∷ []))) (ap length whole)) long))
+
+    module _ (s : Term) (is : s ≡ term_over p t u) (room : Monomial) (has : (v : ℕ) → exponent_of v room + degree_in v b ≡ degree_in v a) where
+      -- nor where the next term has a greater exponent than the quotient can have
+      pub stops_high : (MonomialDivides s.0 room → ⊥) → quotient_within p w a b ≡ None
+      stops_high high = quotient_within_none p w a b (λ q found. high (λ v. go q found v (cases_lt (exponent_of v room) (exponent_of v s.0))))
+        where
+          go : (q : Polynomial) → quotient_within p w a b ≡ Some q → (v : ℕ) → (exponent_of v room < exponent_of v s.0) ⊎ (exponent_of v s.0 ≤ exponent_of v room) → exponent_of v s.0 ≤ exponent_of v room
+          go q found v (inr low) = low
+          go q found v (inl above) =
+              let same = ap (λ x. exponent_of v x.0) is in
+              let degree = ap (degree_in v) whole in
+              let sum = has v in
+              let none = none_of_whole (division_too_high p n prime u (drop 1 b) j_whole a w i ts t (drop 1 rest) v e some (omega arith)) in
+              cc
+
+    -- the next term of the quotient takes its product from the rest
+    pub turn : (s : Term) → s ≡ term_over p t u → MonomialDivides u.0 t.0 → IsDivision p n u (drop 1 b) a (ts ++ s ∷ []) (difference_of p rest (product_of p (s ∷ []) b))
+    turn s is divides =
+        subst (λ r. IsDivision p n u (drop 1 b) a (ts ++ s ∷ []) (difference_of p r (product_of p (s ∷ []) b))) (sym first)
+        (subst (λ x. IsDivision p n u (drop 1 b) a (ts ++ x ∷ []) (difference_of p (t ∷ drop 1 rest) (product_of p (x ∷ []) b))) (sym is)
+        (subst (λ y. IsDivision p n u (drop 1 b) a (ts ++ term_over p t u ∷ []) (difference_of p (t ∷ drop 1 rest) (product_of p (term_over p t u ∷ []) y))) (sym whole)
+        (division_continues p n prime u (drop 1 b) j_whole a ts t (drop 1 rest) (divides_test divides) e)))
+
+    -- by itself it is canonical
+    pub term_canonical : (s : Term) → s ≡ term_over p t u → MonomialDivides u.0 t.0 → IsPolynomial p n (s ∷ [])
+    term_canonical s is divides = subst (λ x. IsPolynomial p n (x ∷ [])) (sym is) (first_quotient_canonical p n prime u (drop 1 b) j_whole t (drop 1 rest) e.rest_canonical (divides_test divides))
+
+  module _ (most : (v : ℕ) → degree_in v a ≤ 65535) where
+    -- its product by b fits
+    pub part_fits : (s : Term) (k : ℕ) → (k + 1) * length b ≤ w → (room : Monomial) → ((v : ℕ) → exponent_of v room + degree_in v b ≡ degree_in v a) → MonomialDivides s.0 room → fits w (s ∷ []) b ≡ true
+    part_fits s k short room has low = (fits_in_each_variable w (s ∷ []) b).1 (inr (inr (few, λ v. let sum = has v in let bound = most v in let small = low v in omega arith)))
+      where
+        few : 1 * length b ≤ w
+        few = let parts : (k + 1) * length b ≡ k * length b + length b = omega arith in omega arith
+
+    -- where nothing is left the terms are the quotient
+    pub done : (ts rest : Polynomial) → rest ≡ [] → IsDivision p n u (drop 1 b) a ts rest → length ts * length b ≤ w → quotient_within p w a b ≡ Some ts
+    done ts rest nothing d few =
+        ap (quotient_within p w a) whole
+        ∙ division_fits p n prime u (drop 1 b) j_whole a w i ts e
+        (subst (λ y. fits w ts y ≡ true) whole (fits_by_terms p n w a b prime i j (λ none. let h = sym whole ∙ none in cc) ts e.terms_canonical (ap (product_of p ts) whole ∙ division_ends p n prime u (drop 1 b) j_whole a ts e) some most few))
+      where
+        e : IsDivision p n u (drop 1 b) a ts []
+        e = subst (λ r. IsDivision p n u (drop 1 b) a ts r) nothing d

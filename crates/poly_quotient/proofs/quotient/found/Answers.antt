@@ -1,0 +1,28 @@
+-- The degrees allow a quotient, and the division finds it.
+use Rattle.std.proofs.Common.{◌≡◌, ◌<◌, ◌∙◌, List, Some, IfSome, All, sym, ap, subst}
+use Rattle.mono_words.specs.declared.mono.TheConstants.{VARS}
+use Rattle.polynomials.specs.Views.{degree_in}
+use Rattle.polynomials.specs.Polynomials.{Term, collected}
+use Rattle.polynomials.proofs.SamePolynomials.{collected_itself}
+use Rattle.division_rules.specs.Quotients.{quotient_within}
+use Rattle.poly_quotient.proofs.Clauses.{All_residues, none_of_degrees, room_of, canonical_of}
+use Rattle.poly_quotient.proofs.quotient.found.Goals as goal
+
+pub returns-then-not-divides : goal.returns-then-not-divides
+returns-then-not-divides c =
+    sym (none_of_degrees c.args.w.field VARS c.args.w.width c.prime.ensures.prime c.args.a.now c.args.b.now c.requires.left c.requires.right c.requires.nonzero c.degrees-low.result c.degrees-high.result (λ v. c.degrees-low.ensures.each v ∙ ap (degree_in v) c.terms-2.ensures.terms) (λ v. c.degrees-high.ensures.each v ∙ ap (degree_in v) c.terms.ensures.terms)
+    (λ e. let f = c.if-is_zero.ensures.1 e in cc)
+    (λ h. let f = c.if-not-divides.ensures.1 h in cc))
+
+pub divided-requires-clause-room : goal.divided-requires-clause-room
+divided-requires-clause-room c = room_of c.args.w.field VARS c.args.w.width c.prime.ensures.prime c.args.a.now c.args.b.now c.requires.left c.requires.right c.requires.nonzero c.degrees-low.result c.degrees-high.result (λ v. c.degrees-low.ensures.each v ∙ ap (degree_in v) c.terms-2.ensures.terms) (λ v. c.degrees-high.ensures.each v ∙ ap (degree_in v) c.terms.ensures.terms) c.quotient.result c.quotient.ensures
+
+pub from_terms-requires : goal.from_terms-requires
+from_terms-requires c =
+    let canonical = canonical_of c.args.w.field VARS c.args.w.width c.prime.ensures.prime c.args.a.now c.args.b.now c.requires.left c.requires.right c.requires.nonzero c.in-Some.terms.items (subst (λ o. IfSome o (λ q. quotient_within c.args.w.field c.args.w.width c.args.a.now c.args.b.now ≡ Some q.items)) c.in-Some.is c.in_ok-divided.ensures.quotient) in
+    subst (λ (l : List Term). All (λ (t : Term). t.1 < c.args.w.field) l) (sym c.deref.ensures.value) (All_residues c.args.w.field VARS c.in-Some.terms.items canonical)
+
+pub returns-in_ok-from_terms-in-Some : goal.returns-in_ok-from_terms-in-Some
+returns-in_ok-from_terms-in-Some c =
+    let canonical = canonical_of c.args.w.field VARS c.args.w.width c.prime.ensures.prime c.args.a.now c.args.b.now c.requires.left c.requires.right c.requires.nonzero c.in-Some.terms.items (subst (λ o. IfSome o (λ q. quotient_within c.args.w.field c.args.w.width c.args.a.now c.args.b.now ≡ Some q.items)) c.in-Some.is c.in_ok-divided.ensures.quotient) in
+    ap Some (c.in_ok-from_terms-in-Some.ensures.value ∙ (ap (collected c.args.w.field) c.deref.ensures.value ∙ collected_itself c.args.w.field VARS c.in-Some.terms.items canonical)) ∙ sym (subst (λ o. IfSome o (λ q. quotient_within c.args.w.field c.args.w.width c.args.a.now c.args.b.now ≡ Some q.items)) c.in-Some.is c.in_ok-divided.ensures.quotient)

@@ -1,0 +1,82 @@
+ghost use Rattle.std.specs.Prelude.{◌≡◌, ◌≢◌, ℕ, ◌+◌, ◌≤◌, [], Some, None, IfOk, IfSome, IfNone};
+ghost use Rattle.polynomials.specs.Monomials.{exponent_of};
+ghost use Rattle.polynomials.specs.Polynomials.{IsPolynomial};
+ghost use Rattle.polynomials.specs.Views.{degree_in};
+ghost use Rattle.division_rules.specs.Quotients.{quotient_within};
+
+use crate::single::divided_by_term;
+use mono_words::{Mono, VARS};
+use sparse_poly::{Poly, Work};
+use std::alloc::{AllocError, Global};
+
+/// The terms of the quotient of `a` by `b`, from the greatest down. `room` has the degree in each
+/// variable that the quotient has where there is one.
+pub fn divided(
+    alloc: Global,
+    w: Work,
+    a: &Poly,
+    b: &Poly,
+    room: Mono,
+) -> Result<Option<Vec<(Mono, u32)>>, AllocError>
+    requires left { IsPolynomial w.field VARS a.now }
+    requires right { IsPolynomial w.field VARS b.now }
+    requires nonzero { b.now ≢ [] }
+    requires some { a.now ≢ [] }
+    requires most { (v : ℕ) → degree_in v a.now ≤ 65535 }
+    requires room { (v : ℕ) → exponent_of v room + degree_in v b.now ≡ degree_in v a.now }
+    ensures quotient { IfOk result (λ r. IfSome r (λ q.
+        quotient_within w.field w.width a.now b.now ≡ Some q.items)) }
+    ensures none { IfOk result (λ r. IfNone r (quotient_within w.field w.width a.now b.now ≡ None)) }
+{
+    if b.term_count() == 1 {
+        divided_by_term(alloc, w, a, b)
+    } else {
+        divided_by_terms(alloc, w, a, b, room)
+    }
+}
+
+/// The same, where terms may meet: each term of the quotient takes its multiple of `b` away.
+fn divided_by_terms(
+    alloc: Global,
+    w: Work,
+    a: &Poly,
+    b: &Poly,
+    room: Mono,
+) -> Result<Option<Vec<(Mono, u32)>>, AllocError>
+    requires left { IsPolynomial w.field VARS a.now }
+    requires right { IsPolynomial w.field VARS b.now }
+    requires nonzero { b.now ≢ [] }
+    requires some { a.now ≢ [] }
+    requires most { (v : ℕ) → degree_in v a.now ≤ 65535 }
+    requires room { (v : ℕ) → exponent_of v room + degree_in v b.now ≡ degree_in v a.now }
+    ensures quotient { IfOk result (λ r. IfSome r (λ q.
+        quotient_within w.field w.width a.now b.now ≡ Some q.items)) }
+    ensures none { IfOk result (λ r. IfNone r (quotient_within w.field w.width a.now b.now ≡ None)) }
+{
+    let f = w.field;
+    // Tells that the modulus is prime.
+    let _ = f.prime();
+    let lead = b.terms()[0];
+    let inverse = f.inv(lead.1);
+    let mut quotient = Vec::new(alloc);
+    let mut rest = a.copy()?;
+    while !rest.is_zero() {
+        let first = rest.terms()[0];
+        let terms = (quotient.len() as u128 + 1) * b.term_count() as u128;
+        if terms > w.width as u128 || !lead.0.divides(first.0) {
+            return Ok(None);
+        }
+        let t = (first.0.quotient(lead.0), f.mul(first.1, inverse));
+        // Tells how many exponents it has.
+        t.0.shape();
+        if !t.0.divides(room) {
+            return Ok(None);
+        }
+        match Poly::from_terms(alloc, f, &[t])?.mul(w, b)? {
+            None => return Ok(None),
+            Some(multiple) => rest = rest.sub(f, &multiple)?,
+        }
+        quotient.push(t)?;
+    }
+    Ok(Some(quotient))
+}

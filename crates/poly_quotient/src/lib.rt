@@ -1,0 +1,14 @@
+//! Exact quotients of sparse polynomials that fit a width, and removal of factors.
+#![tactic(auto)]
+
+mod degrees;
+mod division;
+mod factors;
+mod quotient;
+mod single;
+
+pub use factors::strip;
+pub use quotient::quo;
+
+#[cfg(test)]
+mod tests;

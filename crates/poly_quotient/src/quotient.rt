@@ -1,0 +1,51 @@
+ghost use Rattle.std.specs.Prelude.{◌≡◌, ◌≢◌, ℕ, [], true, IfOk, IfSome, IfNone};
+ghost use Rattle.polynomials.specs.Polynomials.{Polynomial, IsPolynomial, product_of};
+ghost use Rattle.polynomials.specs.Fits.{fits};
+ghost use Rattle.sparse_poly.specs.Values.{HasValueOfProduct};
+ghost use Rattle.division_rules.specs.Quotients.{quotient_within};
+
+use crate::degrees::degrees;
+use crate::division::divided;
+use mono_words::VARS;
+use sparse_poly::{Poly, Work};
+use std::alloc::{AllocError, Global};
+
+/// The quotient of `a` by `b`, and `None` where there is none or it doesn't fit the width.
+pub fn quo(alloc: Global, w: Work, a: &Poly, b: &Poly) -> Result<Option<Poly>, AllocError>
+    requires left { IsPolynomial w.field VARS a.now }
+    requires right { IsPolynomial w.field VARS b.now }
+    requires nonzero { b.now ≢ [] }
+    ensures value { IfOk result (λ r. r ≡ quotient_within w.field w.width a.now b.now) }
+    ensures exact { IfOk result (λ r. IfSome r (λ q. product_of w.field q b.now ≡ a.now)) }
+    ensures fits { IfOk result (λ r. IfSome r (λ q. fits w.width q b.now ≡ true)) }
+    ensures none { IfOk result (λ r. IfNone r ((q : Polynomial) → IsPolynomial w.field VARS q →
+        product_of w.field q b.now ≡ a.now → fits w.width q b.now ≢ true)) }
+    ensures over { IfOk result (λ r. IfSome r (IsPolynomial w.field VARS)) }
+    ensures values { IfOk result (λ r. IfSome r (λ q. HasValueOfProduct w.field q b.now a.now)) }
+{
+    // Tells that the modulus is prime.
+    let _ = w.field.prime();
+    found(alloc, w, a, b)
+}
+
+/// The quotient, with a look at the degrees first.
+fn found(alloc: Global, w: Work, a: &Poly, b: &Poly) -> Result<Option<Poly>, AllocError>
+    requires left { IsPolynomial w.field VARS a.now }
+    requires right { IsPolynomial w.field VARS b.now }
+    requires nonzero { b.now ≢ [] }
+    ensures { IfOk result (λ r. r ≡ quotient_within w.field w.width a.now b.now) }
+{
+    // Tells that the modulus is prime.
+    let _ = w.field.prime();
+    if a.is_zero() {
+        return Ok(Some(Poly::zero(alloc)));
+    }
+    let (high, low) = (degrees(a.terms()), degrees(b.terms()));
+    if !low.divides(high) {
+        return Ok(None);
+    }
+    match divided(alloc, w, a, b, high.quotient(low))? {
+        None => Ok(None),
+        Some(terms) => Ok(Some(Poly::from_terms(alloc, w.field, &terms)?)),
+    }
+}

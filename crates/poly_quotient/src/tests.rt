@@ -1,0 +1,173 @@
+ghost use Rattle.std.specs.Prelude.{IfOk};
+ghost use Rattle.polynomials.specs.Polynomials.{IsPolynomial};
+
+use super::*;
+use field_table::Field;
+use mono_words::{Mono, VARS};
+use sparse_poly::{Poly, Polys, Work};
+use std::alloc::{AllocError, Global};
+use std::test::Fail;
+
+/// The polynomial with the terms `c x^d y^e` of a list.
+fn poly(alloc: Global, f: Field, terms: &[(u16, u16, u32)]) -> Result<Poly, AllocError>
+    ensures { IfOk result (IsPolynomial f VARS) }
+{
+    let mut list = Vec::new(alloc);
+    for (d, e, c) in terms {
+        let x = Mono::power(0, *d);
+        let y = Mono::power(1, *e);
+        if x.fits(y) && *c < f.prime() {
+            list.push((x.product(y), *c))?;
+        }
+    }
+    Poly::from_terms(alloc, f, &list)
+}
+
+/// Whether the quotient of `a` by `b` is `q`, or whether there is none.
+fn gives(
+    alloc: Global,
+    w: Work,
+    a: &[(u16, u16, u32)],
+    b: &[(u16, u16, u32)],
+    q: Option<&[(u16, u16, u32)]>,
+) -> Result<bool, AllocError> {
+    let (a, b) = (poly(alloc, w.field, a)?, poly(alloc, w.field, b)?);
+    if b.is_zero() {
+        return Ok(false);
+    }
+    let found = quo(alloc, w, &a, &b)?;
+    match (found, q) {
+        (Some(found), Some(q)) => Ok(found == poly(alloc, w.field, q)?),
+        (None, None) => Ok(true),
+        _ => Ok(false),
+    }
+}
+
+#[test]
+fn quotients_modulo_5_are_those_done_by_hand(rt: HostRuntime) -> Result<(), Fail> {
+    let alloc = rt.alloc();
+    let w = Work {
+        field: Field::of(5)?,
+        width: 100,
+    };
+    let x = [(1, 0, 1)];
+    let x_plus_one = [(1, 0, 1), (0, 0, 1)];
+    let x_plus_two = [(1, 0, 1), (0, 0, 2)];
+    let x_plus_four = [(1, 0, 1), (0, 0, 4)];
+    let y_plus_x = [(0, 1, 1), (1, 0, 1)];
+    let y_plus_four_x = [(0, 1, 1), (1, 0, 4)];
+
+    assert!(rt; gives(alloc, w, &[], &x, Some(&[]))?);
+    assert!(rt; gives(alloc, w, &[(2, 0, 1), (1, 0, 4)], &x, Some(&x_plus_four))?);
+    assert!(rt;
+        gives(
+            alloc,
+            w,
+            &[(2, 0, 1), (0, 0, 4)],
+            &x_plus_one,
+            Some(&x_plus_four)
+        )?
+    );
+    assert!(rt;
+        gives(
+            alloc,
+            w,
+            &[(0, 2, 1), (2, 0, 4)],
+            &y_plus_x,
+            Some(&y_plus_four_x)
+        )?
+    );
+    // A constant divisor, and a coefficient other than 1 in front.
+    assert!(rt;
+        gives(
+            alloc,
+            w,
+            &[(1, 0, 2), (0, 0, 4)],
+            &[(0, 0, 2)],
+            Some(&x_plus_two)
+        )?
+    );
+    assert!(rt; gives(alloc, w, &[(1, 0, 3)], &[(1, 0, 2)], Some(&[(0, 0, 4)]))?);
+    assert!(rt; gives(alloc, w, &x_plus_one, &x, None)?);
+    assert!(rt; gives(alloc, w, &x, &[(2, 0, 1)], None)?);
+    // The first two terms are multiples of x, the last isn't.
+    assert!(rt; gives(alloc, w, &[(1, 1, 1), (1, 0, 1), (0, 0, 1)], &x, None)?);
+    Ok(())
+}
+
+#[test]
+fn quotients_fit_up_to_the_width(rt: HostRuntime) -> Result<(), Fail> {
+    let alloc = rt.alloc();
+    let field = Field::of(5)?;
+    // Five terms by two terms make x^5 + 4.
+    let power = [(5, 0, 1), (0, 0, 4)];
+    let x_plus_four = [(1, 0, 1), (0, 0, 4)];
+    let powers = [(4, 0, 1), (3, 0, 1), (2, 0, 1), (1, 0, 1), (0, 0, 1)];
+    let multiple = [(2, 0, 1), (1, 0, 4)];
+    let x = [(1, 0, 1)];
+
+    assert!(rt;
+        gives(
+            alloc,
+            Work { field, width: 10 },
+            &power,
+            &x_plus_four,
+            Some(&powers)
+        )?
+    );
+    assert!(rt; gives(alloc, Work { field, width: 9 }, &power, &x_plus_four, None)?);
+    assert!(rt;
+        gives(
+            alloc,
+            Work { field, width: 2 },
+            &multiple,
+            &x,
+            Some(&x_plus_four)
+        )?
+    );
+    assert!(rt; gives(alloc, Work { field, width: 1 }, &multiple, &x, None)?);
+    assert!(rt; gives(alloc, Work { field, width: 0 }, &[], &x, Some(&[]))?);
+    Ok(())
+}
+
+/// Whether `a` without two factors is `rest`.
+fn leaves(
+    alloc: Global,
+    a: &[(u16, u16, u32)],
+    first: &[(u16, u16, u32)],
+    second: &[(u16, u16, u32)],
+    rest: &[(u16, u16, u32)],
+) -> Result<bool, Fail> {
+    let field = Field::of(5)?;
+    let mut list = Polys::new(alloc);
+    list.push(poly(alloc, field, first)?)?;
+    list.push(poly(alloc, field, second)?)?;
+    let a = poly(alloc, field, a)?;
+    let left = strip(alloc, Work { field, width: 100 }, &a, &list)?;
+    Ok(left == poly(alloc, field, rest)?)
+}
+
+#[test]
+fn factors_are_removed_as_often_as_they_divide(rt: HostRuntime) -> Result<(), Fail> {
+    let alloc = rt.alloc();
+    let three = [(0, 0, 3)];
+    let x = [(1, 0, 1)];
+    let x_plus_one = [(1, 0, 1), (0, 0, 1)];
+    let x_plus_two = [(1, 0, 1), (0, 0, 2)];
+
+    assert!(rt; leaves(alloc, &[(2, 0, 1)], &three, &x, &[(0, 0, 1)])?);
+    assert!(rt; leaves(alloc, &[], &x, &three, &[])?);
+    assert!(rt; leaves(alloc, &[(3, 0, 1), (2, 0, 1)], &x, &x_plus_two, &x_plus_one)?);
+    assert!(rt;
+        leaves(
+            alloc,
+            &[(2, 0, 1), (1, 0, 1)],
+            &x_plus_one,
+            &x,
+            &[(0, 0, 1)]
+        )?
+    );
+    assert!(rt; leaves(alloc, &[(2, 0, 1), (1, 0, 1)], &x_plus_one, &x_plus_two, &x)?);
+    assert!(rt; leaves(alloc, &[(1, 0, 2)], &three, &three, &[(1, 0, 2)])?);
+    Ok(())
+}
