@@ -1,0 +1,7 @@
+pub mod Lists
+pub mod PowersWithin
+pub mod Entries
+pub mod RowParts
+pub mod TurnsWithin
+pub mod ChainTurns
+pub mod PlainRows

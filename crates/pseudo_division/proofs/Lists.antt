@@ -1,0 +1,61 @@
+-- Lists that are made entry by entry, and end where an entry isn't there.
+use Rattle.std.proofs.Common.{◌≡◌, ◌+◌, ℕ, zero, suc, List, [], ◌∷◌, ◌++◌, drop, Option, Some, None, refl, sym, ap, ◌∙◌, append_assoc, append-nil, subst, arith}
+use Rattle.std.specs.List.{slice_get}
+use Rattle.polynomials.specs.Polynomials.{Polynomial, IsPolynomial, ArePolynomials}
+use Rattle.division_rules.specs.Within.{and_then}
+
+-- from the place of an item on, it comes first
+pub drop_at : {X : Type 0} (xs : List X) (i : ℕ) (x : X) → slice_get xs i ≡ Some x → drop i xs ≡ x ∷ drop (i + 1) xs
+drop_at xs i x e = go xs i x e ∙ ap (λ j. x ∷ drop j xs) (one_later i)
+  where
+    one_later : (k : ℕ) → suc k ≡ k + 1
+    one_later k = omega arith
+
+    go : {X : Type 0} (xs : List X) (i : ℕ) (x : X) → slice_get xs i ≡ Some x → drop i xs ≡ x ∷ drop (suc i) xs
+    go [] i x e = cc
+    go (y ∷ xs) zero x e = cc
+    go (y ∷ xs) (suc i) x e = go xs i x e
+
+-- each of canonical polynomials is one
+pub IsPolynomial-at : (p n : ℕ) (fs : List Polynomial) (i : ℕ) (f : Polynomial) → ArePolynomials p n fs → slice_get fs i ≡ Some f → IsPolynomial p n f
+IsPolynomial-at p n [] i f are e = cc
+IsPolynomial-at p n (g ∷ fs) zero f are e = let same : g ≡ f = cc in subst (IsPolynomial p n) same are.0
+IsPolynomial-at p n (g ∷ fs) (suc i) f are e = IsPolynomial-at p n fs i f are.1 e
+
+module _ {A : Type 0} where
+  -- an entry and the later ones, where there are all of them
+  abbrev pub in_front : Option A → Option (List A) → Option (List A)
+  in_front x xs = and_then x (λ y. and_then xs (λ ys. Some (y ∷ ys)))
+
+  -- the whole is what was made and what is to come
+  abbrev pub IsMade : Option (List A) → List A → Option (List A) → Type 0
+  IsMade whole made rest = whole ≡ and_then rest (λ xs. Some (made ++ xs))
+
+  -- at first nothing was made
+  pub made_nothing : (whole : Option (List A)) → IsMade whole [] whole
+  made_nothing None = refl
+  made_nothing (Some xs) = refl
+
+  -- one more entry
+  pub made_more : (whole : Option (List A)) (made : List A) (first : Option A) (rest : Option (List A)) (x : A) → first ≡ Some x → IsMade whole made (in_front first rest) → IsMade whole (made ++ x ∷ []) rest
+  made_more whole made first rest x e h = h ∙ (ap (λ y. and_then (in_front y rest) (λ xs. Some (made ++ xs))) e ∙ go rest)
+    where
+      go : (rest : Option (List A)) → and_then (in_front (Some x) rest) (λ xs. Some (made ++ xs)) ≡ and_then rest (λ xs. Some ((made ++ x ∷ []) ++ xs))
+      go None = refl
+      go (Some ys) = ap Some (sym (append_assoc made (x ∷ []) ys))
+
+  -- an entry that isn't there
+  pub made_none : (whole : Option (List A)) (made : List A) (first : Option A) (rest : Option (List A)) → first ≡ None → IsMade whole made (in_front first rest) → whole ≡ None
+  made_none whole made first rest e h = h ∙ ap (λ y. and_then (in_front y rest) (λ xs. Some (made ++ xs))) e
+
+  -- at the end nothing is to come
+  pub made_all : (whole : Option (List A)) (made : List A) → IsMade whole made (Some []) → whole ≡ Some made
+  made_all whole made h = h ∙ ap Some (append-nil made)
+
+-- one more copy of an item
+pub copied_more : {X : Type 0} (xs out longer : List X) (i : ℕ) (x y : X) → slice_get xs i ≡ Some x → y ≡ x → longer ≡ out ++ y ∷ [] → out ++ drop i xs ≡ xs → longer ++ drop (i + 1) xs ≡ xs
+copied_more xs out longer i x y at same is whole =
+    ap (λ zs. zs ++ drop (i + 1) xs) is
+    ∙ (append_assoc out (y ∷ []) (drop (i + 1) xs)
+    ∙ (ap (λ z. out ++ (z ∷ drop (i + 1) xs)) same
+    ∙ (ap (λ zs. out ++ zs) (sym (drop_at xs i x at)) ∙ whole)))

@@ -1,0 +1,2 @@
+pub mod FieldOperations
+pub mod Turns
