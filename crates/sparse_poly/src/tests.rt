@@ -107,6 +107,35 @@ fn products_agree_with_sums_done_by_hand(rt: HostRuntime) -> Result<(), Fail> {
     Ok(())
 }
 
+#[test]
+fn a_square_fits_from_the_number_of_its_pairs_on(rt: HostRuntime) -> Result<(), Fail> {
+    let alloc = rt.alloc();
+    let field = Field::of(5)?;
+    let sum = poly(alloc, field, &[(1, 1, 0, 0), (1, 0, 0, 0)])?;
+    let square = poly(alloc, field, &[(1, 2, 0, 0), (2, 1, 0, 0), (1, 0, 0, 0)])?;
+    assert!(rt; sum.mul(Work { field, width: 3 }, &sum)?.is_none());
+    assert!(rt;
+        sum.mul(Work { field, width: 4 }, &sum)?
+            .is_some_and(|made| made == square)
+    );
+    Ok(())
+}
+
+#[test]
+fn a_term_is_taken_away_or_multiplied_in(rt: HostRuntime) -> Result<(), Fail> {
+    let alloc = rt.alloc();
+    let f = Field::of(5)?;
+    let x = poly(alloc, f, &[(1, 1, 0, 0)])?;
+    let line = poly(alloc, f, &[(1, 1, 0, 0), (4, 0, 0, 0)])?;
+    let shifted = poly(alloc, f, &[(1, 1, 0, 1), (4, 0, 0, 1)])?;
+    let one = Poly::constant(alloc, f, 1)?;
+    assert!(rt; x.sub(f, &line)? == one);
+    assert!(rt; one.add(f, &line)? == x);
+    assert_eq!(rt; line.degree_in(2), 0);
+    assert!(rt; line.times_power(f, 2, 1)? == shifted);
+    Ok(())
+}
+
 fn crosses_threads<T: Send + Sync + Drop>(_value: T) {}
 
 #[test]
