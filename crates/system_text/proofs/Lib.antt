@@ -1,1 +1,5 @@
 mod Examples
+pub mod Values
+mod Places
+mod Runs
+mod TreesAreRead
