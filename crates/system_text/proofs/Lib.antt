@@ -3,3 +3,4 @@ pub mod Values
 mod Places
 mod Runs
 mod TreesAreRead
+mod PartialTrees
