@@ -4,3 +4,4 @@ mod Places
 mod Runs
 mod TreesAreRead
 mod PartialTrees
+mod Steps
