@@ -5,3 +5,4 @@ mod Runs
 mod TreesAreRead
 mod PartialTrees
 mod Steps
+mod LaterSteps

@@ -12,12 +12,12 @@ use Rattle.system_text.specs.Grammar.{Sum, Term, Factor, Base, Bare, Raised, Num
 use Rattle.system_text.proofs.PartialTrees.{Before, Beginning, Negative, Adding, TakingAway, before_tokens, factors_tokens, Part, outer_tokens, OuterMeans, Partial, EndsWithBase, EndsWithTerm, EndsWithSum, EndsOpen, Means, ReadingMeans, term_from_factor, sum_from_term}
 
 -- what passes a test
-ok_after_test : {A : Type 0} (b : Bool) (d : Fault) (x : Result A Fault) (y : A) → cond b (Err d) x ≡ Ok y → (b ≡ false) × (x ≡ Ok y)
+pub ok_after_test : {A : Type 0} (b : Bool) (d : Fault) (x : Result A Fault) (y : A) → cond b (Err d) x ≡ Ok y → (b ≡ false) × (x ≡ Ok y)
 ok_after_test true d x y e = absurd cc
 ok_after_test false d x y e = (refl, e)
 
 -- one more token
-more : (xs as' bs last : List Token) (x : Token) → xs ≡ as' ++ (bs ++ last) → xs ++ x ∷ [] ≡ as' ++ (bs ++ (last ++ x ∷ []))
+pub more : (xs as' bs last : List Token) (x : Token) → xs ≡ as' ++ (bs ++ last) → xs ++ x ∷ [] ≡ as' ++ (bs ++ (last ++ x ∷ []))
 more xs as' bs last x e = ap (λ ys. ys ++ x ∷ []) e ∙ append_assoc as' (bs ++ last) (x ∷ []) ∙ ap (λ ys. as' ++ ys) (append_assoc bs last (x ∷ []))
 
 more_after_factors : (xs as' bs cs last : List Token) (x : Token) → xs ≡ as' ++ (bs ++ (cs ++ last)) → xs ++ x ∷ [] ≡ as' ++ (bs ++ (cs ++ (last ++ x ∷ [])))
@@ -25,13 +25,13 @@ more_after_factors xs as' bs cs last x e = more xs as' bs (cs ++ last) x e ∙ a
 
 module _ (s : Setting) where
   -- the reading that follows is this one
-  at_next : (xs : List Token) (r next : Reading) → ReadingMeans s xs r → ◌≡◌ {A = Result Reading Fault} (Ok r) (Ok next) → ReadingMeans s xs next
+  pub at_next : (xs : List Token) (r next : Reading) → ReadingMeans s xs r → ◌≡◌ {A = Result Reading Fault} (Ok r) (Ok next) → ReadingMeans s xs next
   at_next xs r next h e =
       let same : r ≡ next = cc in
       subst (ReadingMeans s xs) same h
 
   -- more tokens after the same sums
-  further : (xs : List Token) (outer : List Frame) (frame : Frame) (last : List Token) (x : Token) → Partial s xs outer frame last → Partial s (xs ++ x ∷ []) outer frame (last ++ x ∷ [])
+  pub further : (xs : List Token) (outer : List Frame) (frame : Frame) (last : List Token) (x : Token) → Partial s xs outer frame last → Partial s (xs ++ x ∷ []) outer frame (last ++ x ∷ [])
   further xs outer frame last x h = record {
     parts = h.parts;
     before = h.before;
@@ -80,7 +80,7 @@ module _ (s : Setting) where
           empty = refl;
         }) passed.1
 
-    factor_means : (x : Token) (next : Reading) → Partial s xs outer frame [] → at_factor s outer frame t x ≡ Ok next → ReadingMeans s (xs ++ x ∷ []) next
+    pub factor_means : (x : Token) (next : Reading) → Partial s xs outer frame [] → at_factor s outer frame t x ≡ Ok next → ReadingMeans s (xs ++ x ∷ []) next
     factor_means (Name x) next h e = name_means x (place_of_name 0 s.names x) next refl h e
     factor_means (Number digits) next h e = number_means digits next h e
     factor_means Open next h e = open_means next h e
@@ -98,7 +98,7 @@ module _ (s : Setting) where
     product_means = ap (λ x. x.product) h.empty;
   }
 
-  sum_means : (xs : List Token) (outer : List Frame) (frame : Frame) (t : Placed) (x : Token) (next : Reading) → EndsOpen s xs outer frame → at_sum s outer frame t x ≡ Ok next → ReadingMeans s (xs ++ x ∷ []) next
+  pub sum_means : (xs : List Token) (outer : List Frame) (frame : Frame) (t : Placed) (x : Token) (next : Reading) → EndsOpen s xs outer frame → at_sum s outer frame t x ≡ Ok next → ReadingMeans s (xs ++ x ∷ []) next
   sum_means xs outer frame t Minus next h e = at_next (xs ++ Minus ∷ []) (record { outer = outer; frame = record frame { is_negative = true }; mode = AtFactor }) next (record {
     parts = h.parts;
     before = Negative;
