@@ -1,14 +1,14 @@
 -- Each token after a base or a factor keeps what the reading means.
-use Rattle.std.proofs.Common.{◌≡◌, ℕ, ◌<◌, ◌≤◌, Bool, true, false, cond, ltb, List, [], ◌∷◌, ◌++◌, length, Option, Some, None, Result, Ok, Err, refl, sym, ap, ◌∙◌, subst, append_assoc, append-nil, arith}
+use Rattle.std.proofs.Common.{◌≡◌, ℕ, ◌<◌, ◌≤◌, Bool, true, false, cond, ltb, List, [], ◌∷◌, ◌++◌, length, Option, Some, None, Result, Ok, Err, refl, sym, ap, ◌∙◌, subst, append_assoc, append-nil}
 use Rattle.std.proofs.lemmas.Bool.{ltb-false}
 use Rattle.std.specs.Str.Parse.{digits_value}
 use Rattle.polynomials.specs.Polynomials.{Polynomial}
 use Rattle.polynomials.specs.Fits.{power_within}
-use Rattle.system_text.specs.Tokens.{Token, Placed, Name, Number, Plus, Minus, Times, Power, Open, Close}
+use Rattle.system_text.specs.Tokens.{Token, Placed, Number, Plus, Minus, Times, Power, Open, Close}
 use Rattle.system_text.specs.Faults.{Fault, fault}
 use Rattle.system_text.specs.Limits.{most_digits, most_power, text_width}
-use Rattle.system_text.specs.Sums.{Setting, Frame, Mode, Reading, AtSum, AtFactor, AfterBase, AtExponent, AfterFactor, times_within, with_last, closed_at, after_factor, after_bare, after_factor_at, after_base_token, raised, exponent_at, at_exponent, step_in, step}
-use Rattle.system_text.specs.Grammar.{Sum, Base, Bare, Raised, Parenthesis, sum_tokens, term_tokens, factor_tokens, base_tokens, base_value, of_one}
+use Rattle.system_text.specs.Sums.{Setting, Frame, Mode, Reading, AtSum, AtFactor, AfterBase, AtExponent, AfterFactor, times_within, with_last, closed_at, after_factor, after_factor_at, after_base_token, raised, at_exponent, step_in, step}
+use Rattle.system_text.specs.Grammar.{Sum, Bare, Raised, Parenthesis, sum_tokens, term_tokens, factor_tokens, base_tokens, of_one}
 use Rattle.system_text.proofs.PartialTrees.{Adding, TakingAway, before_tokens, factors_tokens, Part, outer_tokens, OuterMeans, Partial, EndsWithBase, EndsWithTerm, EndsWithSum, Means, ReadingMeans, term_from_factor, sum_from_term}
 use Rattle.system_text.proofs.Steps.{ok_after_test, more, at_next, further, factor_means, sum_means}
 

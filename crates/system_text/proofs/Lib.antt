@@ -6,3 +6,4 @@ mod TreesAreRead
 mod PartialTrees
 mod Steps
 mod LaterSteps
+mod ReadSums

@@ -1,6 +1,6 @@
 -- What a reading of a sum means: the trees that the tokens so far spell, and their values.
-use Rattle.std.proofs.Common.{◌≡◌, ℕ, ◌<◌, Bool, true, false, List, [], ◌∷◌, ◌++◌, length, Option, Some, None, refl, sym, ap, ◌∙◌, subst, append_assoc, append-nil, arith}
-use Rattle.polynomials.specs.Polynomials.{Polynomial, sum_of, negative_of}
+use Rattle.std.proofs.Common.{◌≡◌, ℕ, ◌<◌, Bool, true, false, List, [], ◌∷◌, ◌++◌, length, Option, Some, None, refl, sym, ap, ◌∙◌, subst, append_assoc, arith}
+use Rattle.polynomials.specs.Polynomials.{Polynomial, negative_of}
 use Rattle.polynomials.proofs.PolynomialLaws.{zero-sum_of}
 use Rattle.polynomials.proofs.Canonical.{IsPolynomial-negative_of}
 use Rattle.system_text.specs.Tokens.{Token, Plus, Minus, Times, Power, Open}

@@ -3,10 +3,10 @@ use Rattle.std.proofs.Common.{◌≡◌, ℕ, ◌%◌, Bool, true, false, cond, 
 use Rattle.std.specs.Str.Parse.{digits_value}
 use Rattle.polynomials.specs.Polynomials.{Polynomial, constant_of}
 use Rattle.polynomials.specs.Fits.{power_within}
-use Rattle.system_text.specs.Tokens.{Token, Placed, Name, Number, Plus, Minus, Times, Power, Open, Close, Stray, NotText, unplaced}
+use Rattle.system_text.specs.Tokens.{Token, Placed, Name, Number, Plus, Minus, Times, Power, Open, Close, unplaced}
 use Rattle.system_text.specs.Faults.{Fault, fault}
 use Rattle.system_text.specs.Limits.{most_digits, most_exponent, most_depth, text_width}
-use Rattle.system_text.specs.Sums.{Setting, Frame, Mode, Reading, AtSum, AtFactor, AfterBase, AtExponent, AfterFactor, empty_frame, times_within, after_base, at_factor, at_sum, variable_at, after_factor_at, closed_at, next_term, after_factor, after_base_token, raised, at_exponent, step_in, step, ended_bare, ended_in, ended, read_tokens}
+use Rattle.system_text.specs.Sums.{Setting, Frame, Mode, Reading, AtSum, AtFactor, AfterBase, AtExponent, AfterFactor, empty_frame, times_within, after_base, at_factor, at_sum, variable_at, after_factor_at, closed_at, after_factor, after_base_token, raised, at_exponent, step_in, step, ended_bare, ended_in, ended, read_tokens}
 
 -- a token without a place
 abbrev pub bare : Token → Placed
@@ -88,9 +88,9 @@ module _ (s : Setting) (outer : List Frame) (frame : Frame) (t u : Placed) where
       let power : Option Polynomial = power_within s.modulus s.variables text_width f (digits_value 10 digits) in
       let small : Bool = ltb most (digits_value 10 digits) in
       state_of-cond (ltb most_digits (length digits)) (fault 9 t.first) (fault 9 u.first)
-          (cond small (Err (fault 10 t.first)) (raised s outer frame t.last power))
-          (cond small (Err (fault 10 u.first)) (raised s outer frame u.last power))
-          (state_of-cond small (fault 10 t.first) (fault 10 u.first) (raised s outer frame t.last power) (raised s outer frame u.last power) (raised_bare t.last u.last power))
+      (cond small (Err (fault 10 t.first)) (raised s outer frame t.last power))
+      (cond small (Err (fault 10 u.first)) (raised s outer frame u.last power))
+      (state_of-cond small (fault 10 t.first) (fault 10 u.first) (raised s outer frame t.last power) (raised s outer frame u.last power) (raised_bare t.last u.last power))
   at_exponent_bare f most Plus = refl
   at_exponent_bare f most _ = refl
 

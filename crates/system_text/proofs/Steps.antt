@@ -1,15 +1,14 @@
 -- Each token that is read keeps what the reading means.
-use Rattle.std.proofs.Common.{◌≡◌, ℕ, ◌%◌, ◌<◌, ◌≤◌, Bool, true, false, cond, ltb, leb, List, [], ◌∷◌, ◌++◌, length, Option, Some, None, Result, Ok, Err, refl, sym, ap, ◌∙◌, subst, append_assoc, append-nil, arith}
+use Rattle.std.proofs.Common.{◌≡◌, ℕ, ◌%◌, Bool, true, false, cond, ltb, leb, List, [], ◌∷◌, ◌++◌, length, Option, Some, None, Result, Ok, Err, refl, sym, ap, ◌∙◌, subst, append_assoc, append-nil}
 use Rattle.std.proofs.lemmas.Bool.{ltb-false, leb-false}
 use Rattle.std.specs.Str.Parse.{digits_value}
 use Rattle.polynomials.specs.Polynomials.{Polynomial, constant_of, variable_power}
-use Rattle.polynomials.specs.Fits.{power_within}
-use Rattle.system_text.specs.Tokens.{Token, Placed, Name, Number, Plus, Minus, Times, Power, Open, Close}
+use Rattle.system_text.specs.Tokens.{Token, Placed, Name, Number, Minus, Open}
 use Rattle.system_text.specs.Faults.{Fault, fault}
-use Rattle.system_text.specs.Limits.{most_digits, most_exponent, most_power, most_depth, text_width}
-use Rattle.system_text.specs.Sums.{Setting, Frame, Mode, Reading, AtSum, AtFactor, AfterBase, AtExponent, AfterFactor, empty_frame, place_of_name, times_within, with_last, after_base, variable_at, number_base, opened_at, at_factor, at_sum, closed_at, after_factor, after_bare, after_factor_at, after_base_token, raised, exponent_at, at_exponent, step_in, step}
-use Rattle.system_text.specs.Grammar.{Sum, Term, Factor, Base, Bare, Raised, Numeral, Variable, Parenthesis, variable_of, sum_tokens, term_tokens, factor_tokens, base_tokens, base_value, most_of}
-use Rattle.system_text.proofs.PartialTrees.{Before, Beginning, Negative, Adding, TakingAway, before_tokens, factors_tokens, Part, outer_tokens, OuterMeans, Partial, EndsWithBase, EndsWithTerm, EndsWithSum, EndsOpen, Means, ReadingMeans, term_from_factor, sum_from_term}
+use Rattle.system_text.specs.Limits.{most_digits, most_exponent, most_depth}
+use Rattle.system_text.specs.Sums.{Setting, Frame, Reading, AtSum, AtFactor, AfterBase, empty_frame, place_of_name, after_base, variable_at, number_base, opened_at, at_factor, at_sum}
+use Rattle.system_text.specs.Grammar.{Base, Numeral, Variable, variable_of, base_tokens, base_value, most_of}
+use Rattle.system_text.proofs.PartialTrees.{Beginning, Negative, before_tokens, factors_tokens, outer_tokens, Partial, EndsOpen, ReadingMeans}
 
 -- what passes a test
 pub ok_after_test : {A : Type 0} (b : Bool) (d : Fault) (x : Result A Fault) (y : A) → cond b (Err d) x ≡ Ok y → (b ≡ false) × (x ≡ Ok y)

@@ -1,15 +1,15 @@
 -- What a tree within the limits spells is read, as its value.
-use Rattle.std.proofs.Common.{◌≡◌, ℕ, ◌+◌, ◌%◌, ◌<◌, ◌≤◌, Bool, true, false, List, [], ◌∷◌, ◌++◌, length, Option, Some, None, Result, Ok, Err, refl, sym, ap, ◌∙◌, subst, append_assoc, append-nil, arith}
+use Rattle.std.proofs.Common.{◌≡◌, ℕ, ◌%◌, ◌<◌, Bool, true, false, List, [], ◌∷◌, ◌++◌, length, Option, Some, None, Ok, refl, sym, ap, ◌∙◌, subst, append_assoc, append-nil, arith}
 use Rattle.std.specs.Str.Parse.{digits_value}
 use Rattle.polynomials.specs.Polynomials.{Polynomial, constant_of, variable_power, sum_of, difference_of, negative_of}
 use Rattle.polynomials.specs.Fits.{product_within, power_within}
 use Rattle.polynomials.proofs.PolynomialLaws.{zero-sum_of}
 use Rattle.system_text.specs.Tokens.{Token, Name, Number, Plus, Minus, Times, Power, Open, Close}
 use Rattle.system_text.specs.Limits.{most_exponent, most_power, text_width}
-use Rattle.system_text.specs.Sums.{Setting, Frame, AtSum, AtFactor, AfterBase, AfterFactor, Reading, empty_frame, place_of_name, times_within, with_last, start, variable_at, read_tokens}
+use Rattle.system_text.specs.Sums.{Setting, Frame, AtSum, AtFactor, AfterBase, AfterFactor, empty_frame, place_of_name, times_within, with_last, start, variable_at}
 use Rattle.system_text.specs.Grammar.{Sum, Term, Factor, Base, First, FirstNegative, Added, TakenAway, Single, Multiplied, Bare, Raised, Numeral, Variable, Parenthesis, variable_of, sum_tokens, term_tokens, factor_tokens, base_tokens, sum_value, term_value, factor_value, base_value, most_of, IsSumWithin, IsTermWithin, IsFactorWithin, IsBaseWithin}
-use Rattle.system_text.proofs.Values.{of_both_parts, of_one_parts, IsNamed, sum_value_is_named, term_value_is_named}
-use Rattle.system_text.proofs.Places.{bare, read_at_places}
+use Rattle.system_text.proofs.Values.{of_both_parts, of_one_parts, IsNamed, sum_value_is_named}
+use Rattle.system_text.proofs.Places.{bare}
 use Rattle.system_text.proofs.Runs.{reading, fresh, EndsFactor, EndsTerm, BeginsFactor, ends_factor, run, run_after, run-at_sum, run-after_factor, run-after_term, run-after_base, run-at_exponent, run-number, run-open}
 
 -- a factor begins with a number, a name or a parenthesis

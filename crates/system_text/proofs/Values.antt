@@ -1,10 +1,9 @@
 -- Each value of a tree is a canonical polynomial in the variables that have a name.
-use Rattle.std.proofs.Common.{◌≡◌, ℕ, zero, suc, ◌+◌, ◌%◌, ◌<◌, ◌≤◌, Bool, true, false, cond, List, [], ◌∷◌, length, Option, Some, None, refl, sym, ap, ◌∙◌, subst, mod-lt, arith}
+use Rattle.std.proofs.Common.{◌≡◌, ℕ, suc, ◌+◌, ◌%◌, ◌<◌, Bool, true, false, cond, List, [], ◌∷◌, length, Option, Some, None, refl, sym, ◌∙◌, subst, mod-lt, arith}
 use Rattle.std.specs.Str.{bytes_eq}
 use Rattle.std.specs.Str.Parse.{digits_value}
-use Rattle.polynomials.specs.Polynomials.{Polynomial, IsPolynomial, sum_of, difference_of, negative_of, product_of, constant_of, variable_power}
-use Rattle.polynomials.specs.Views.{IsFreeOf}
-use Rattle.polynomials.specs.Fits.{product_within, power_within, power_of}
+use Rattle.polynomials.specs.Polynomials.{Polynomial, sum_of, difference_of, negative_of, constant_of, variable_power}
+use Rattle.polynomials.specs.Fits.{product_within, power_within}
 use Rattle.polynomials.proofs.Canonical.{IsPolynomial-sum_of, IsPolynomial-product_of, IsPolynomial-negative_of, IsPolynomial-constant_of}
 use Rattle.polynomials.proofs.LeadAndTail.{IsPolynomial-variable_power}
 use Rattle.polynomials.proofs.Powers.{IsPolynomial-power_of, power_is_free, power_within_is_power}
