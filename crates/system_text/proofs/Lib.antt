@@ -7,3 +7,5 @@ mod PartialTrees
 mod Steps
 mod LaterSteps
 mod ReadSums
+mod CharacterLemmas
+mod TokenTexts
