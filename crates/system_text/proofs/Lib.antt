@@ -9,3 +9,5 @@ mod LaterSteps
 mod ReadSums
 mod CharacterLemmas
 mod TokenTexts
+mod Lookups
+mod PrimeLines
