@@ -11,3 +11,4 @@ mod CharacterLemmas
 mod TokenTexts
 mod Lookups
 mod PrimeLines
+mod OrderLines
