@@ -12,3 +12,4 @@ mod TokenTexts
 mod Lookups
 mod PrimeLines
 mod OrderLines
+mod PlainTexts
