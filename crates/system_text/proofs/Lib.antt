@@ -13,3 +13,6 @@ mod Lookups
 mod PrimeLines
 mod OrderLines
 mod PlainTexts
+mod TextLines
+mod ReadTexts
+mod ReadSystems

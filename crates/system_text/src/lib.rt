@@ -3,4 +3,4 @@
 
 mod laws;
 
-pub use laws::spelled_sums_are_read;
+pub use laws::{spelled_sums_are_read, system_texts_are_read, what_is_read_is_a_system};
