@@ -1,0 +1,9 @@
+pub mod Characters
+pub mod Tokens
+pub mod Faults
+pub mod Limits
+pub mod Sums
+pub mod Grammar
+pub mod Lines
+pub mod Systems
+pub mod Laws

@@ -1,0 +1,72 @@
+-- What a system text is, by its grammar.
+use Rattle.std.specs.Prelude.{◌≡◌, ◌≢◌, ◌⊎◌, ℕ, ◌≤◌, true, false, not, List, [], ◌∷◌, length, map, filter, Some, Contains, codes, IsTrue}
+use Rattle.std.specs.List.{AllByRecursion}
+use Rattle.std.specs.Str.Parse.{digits_value}
+use Rattle.polynomials.specs.Primes.{field_primes}
+use Rattle.polynomials.specs.Polynomials.{Polynomial}
+use Rattle.system_text.specs.Characters.{is_character, is_name}
+use Rattle.system_text.specs.Tokens.{Token, Name, Number, tokens, unplaced}
+use Rattle.system_text.specs.Sums.{Setting}
+use Rattle.system_text.specs.Grammar.{Sum, sum_tokens, sum_value, IsSumWithin}
+use Rattle.system_text.specs.Lines.{lines_of, is_skipped, is_text_of, reserved_names, TextSystem, setting_of}
+
+-- the line has these tokens
+abbrev pub HasTokens : List ℕ → List Token → Type 0
+HasTokens line ts = unplaced (tokens line) ≡ ts
+
+-- the line spells a sum within the limits whose value is f
+pub record SpellsSum (s : Setting) (line : List ℕ) (f : Polynomial) : Type 0 where
+  pub tree : Sum
+  pub spelled : HasTokens line (sum_tokens tree)
+  pub value : sum_value s tree ≡ Some f
+  pub within : IsSumWithin 0 tree
+
+-- the lines spell these polynomials, one each
+abbrev pub SpellSums : Setting → List (List ℕ) → List Polynomial → Type 0
+SpellSums s [] fs = fs ≡ []
+SpellSums s (line ∷ lines) [] = ⊥
+SpellSums s (line ∷ lines) (f ∷ fs) = SpellsSum s line f × SpellSums s lines fs
+
+-- the line is `prime` and this number
+pub record SpellsPrime (line : List ℕ) (p : ℕ) : Type 0 where
+  pub digits : List ℕ
+  pub spelled : HasTokens line (Name (codes "prime") ∷ Number digits ∷ [])
+  pub value : digits_value 10 digits ≡ p
+  pub offered : Contains field_primes p
+
+-- no two of them are the same
+abbrev pub AreDifferent : List (List ℕ) → Type 0
+AreDifferent [] = Unit {0}
+AreDifferent (x ∷ xs) = (is_text_of xs x ≡ false) × AreDifferent xs
+
+-- one to n different names, none of them reserved, each spelled as names are
+pub record AreNames (n : ℕ) (names : List (List ℕ)) : Type 0 where
+  pub some : names ≢ []
+  pub most : length names ≤ n
+  pub different : AreDifferent names
+  pub free : AllByRecursion (λ x. is_text_of reserved_names x ≡ false) names
+  pub spelled : AllByRecursion (λ x. is_name x ≡ true) names
+
+-- the line is `order` and these names
+pub record SpellsOrder (n : ℕ) (line : List ℕ) (names : List (List ℕ)) : Type 0 where
+  pub spelled : HasTokens line (Name (codes "order") ∷ map Name names)
+  pub lawful : AreNames n names
+
+-- the lines that aren't skipped
+abbrev pub content_of : List ℕ → List (List ℕ)
+content_of bytes = filter (λ line. not (is_skipped line)) (lines_of bytes)
+
+-- each byte is a character or ends a line
+abbrev pub IsPlain : List ℕ → Type 0
+IsPlain bytes = AllByRecursion (λ b. IsTrue (is_character b) ⊎ (b ≡ 10)) bytes
+
+-- the text is the system: a prime line, an order line, and a line for each polynomial
+pub record IsSystemText (n : ℕ) (bytes : List ℕ) (system : TextSystem) : Type 0 where
+  pub plain : IsPlain bytes
+  pub prime_line : List ℕ
+  pub order_line : List ℕ
+  pub sum_lines : List (List ℕ)
+  pub lines : content_of bytes ≡ prime_line ∷ order_line ∷ sum_lines
+  pub prime : SpellsPrime prime_line system.prime
+  pub order : SpellsOrder n order_line system.names
+  pub sums : SpellSums (setting_of n system) sum_lines system.inputs
