@@ -1,0 +1,13 @@
+mod RowStarts
+mod RowShapes
+mod RowPoints
+mod Lists
+mod MonicForms
+mod Stripped
+mod StrippedPoints
+mod KnownNonzero
+mod ChainParts
+mod Heads
+mod CommonRows
+mod LeadCases
+mod Cover

@@ -1,0 +1,2 @@
+pub mod TaskForms
+pub mod Laws
