@@ -1,9 +1,9 @@
 -- The children of an imposed polynomial cover the task.
-use Rattle.std.proofs.Common.{◌≡◌, ◌≢◌, ◌⊎◌, inl, inr, ℕ, ◌<◌, ◌≤◌, List, [], ◌∷◌, ◌++◌, map, Option, Some, None, IfSome, refl, sym, ap, ◌∙◌, subst, arith}
+use Rattle.std.proofs.Common.{◌≡◌, ◌≢◌, ◌⊎◌, inl, inr, ℕ, ◌<◌, ◌≤◌, List, [], ◌∷◌, ◌++◌, map, Some, IfSome, refl, sym, ap, ◌∙◌, subst, arith}
 use Rattle.std.proofs.lemmas.Bool.{cases_lt}
 use Rattle.std.specs.List.{AllByRecursion}
 use Rattle.polynomials.specs.Primes.{IsPrime}
-use Rattle.polynomials.specs.Polynomials.{Polynomial, IsPolynomial, ArePolynomials, product_of, variable_power, is_zero}
+use Rattle.polynomials.specs.Polynomials.{Polynomial, IsPolynomial, ArePolynomials, product_of, variable_power}
 use Rattle.polynomials.specs.Views.{degree_in, lead_in, tail_in, main_var, is_no_variable, IsFreeOf}
 use Rattle.polynomials.proofs.Coefficients.{IsPolynomial-coefficient_in}
 use Rattle.polynomials.proofs.Degrees.{coefficient_in_free, lead_in_nonzero}
@@ -16,18 +16,14 @@ use Rattle.zero_sets.specs.ZeroSets.{InZeroSet, AreNonZero, InQuasiComponent, Is
 use Rattle.zero_sets.specs.Tasks.{Task, is_known_nonzero, with_nonzero}
 use Rattle.zero_sets.proofs.CertificateLemmas.{InZeroSet-members_below}
 use Rattle.zero_sets.proofs.PointFacts.{zero_or_not, product_zero_left, sum_value_right}
-use Rattle.division_rules.specs.Rows.{Row, plain, plains}
-use Rattle.division_rules.specs.Within.{and_then}
+use Rattle.division_rules.specs.Rows.{Row}
 use Rattle.division_rules.specs.Lists.{list_operations}
 use Rattle.division_rules.specs.RemainderRows.{leads}
-use Rattle.division_rules.specs.RemainderRowsWithin.{remainder_rows_within}
 use Rattle.division_rules.proofs.Steps.{choose}
-use Rattle.division_rules.proofs.ListLaws.{not_zero_by_test}
-use Rattle.division_rules.proofs.WithinLimits.{gives-remainder_rows}
 use Rattle.impose_rules.specs.Factors.{stripped}
 use Rattle.impose_rules.specs.Leads.{lead_cases}
 use Rattle.impose_rules.specs.Chains.{with_member}
-use Rattle.impose_rules.specs.Impose.{reduced_head, child_without, child_extended, child_initial, child_lead, child_common, children_by_rows, children_at, children_of, impose_children}
+use Rattle.impose_rules.specs.Impose.{reduced_head, child_extended, child_initial, child_lead, child_common, children_by_rows, impose_children}
 use Rattle.impose_laws.specs.TaskForms.{InSomeTask}
 use Rattle.impose_laws.specs.Laws.{ChildrenCoverTheTask}
 use Rattle.impose_laws.proofs.RowStarts.{IsStart}
@@ -37,14 +33,10 @@ use Rattle.impose_laws.proofs.StrippedPoints.{stripped_zero, stripped_lead}
 use Rattle.impose_laws.proofs.Stripped.{main_var-stripped}
 use Rattle.impose_laws.proofs.KnownNonzero.{constant_nonzero, known_nonzero, with_nonzero_points, with_all_points}
 use Rattle.impose_laws.proofs.ChainParts.{member_of_chain, each_with_member, IsRegularZero, each_regular, regular_each}
-use Rattle.impose_laws.proofs.Heads.{IsHead, reduced_by, head_is, head_is_head, IsPolynomial-reduced_by, start_of}
+use Rattle.impose_laws.proofs.Heads.{IsHead, reduced_by, head_is, IsPolynomial-reduced_by, start_of}
 use Rattle.impose_laws.proofs.CommonRows.{occurring_nonzero, row_leads, leads_canonical, leads_nonzero, leads_free, later_rows, last_polynomial, last_canonical, last_main}
+use Rattle.impose_laws.proofs.ChildrenCases.{by_children}
 use Rattle.impose_laws.proofs.LeadCases.{in_some_left, in_some_right, lead_case_or_none}
-
--- where there is something, what holds of each result of the second step holds
-then_holds : {A B : Type 0} (Q : B → Type 0) (x : Option A) (f : A → Option B) → ((a : A) → x ≡ Some a → IfSome (f a) Q) → IfSome (and_then x f) Q
-then_holds Q None f each = tt
-then_holds Q (Some a) f each = each a refl
 
 module _ (p n w : ℕ) (prime : IsPrime p) (r : Tables) (domain : IsFiniteDomain p r) (xs : List ℕ) (point : IsPoint r xs) where
   -- where f and its lead are zero, so is its tail
@@ -124,19 +116,12 @@ module _ (p n w : ℕ) (prime : IsPrime p) (r : Tables) (domain : IsFiniteDomain
               | inr none ↦ in_some_left r xs (common ++ cases) initial (in_some_left r xs common cases (common_has (h, none)))
             ]
 
-      -- by the polynomial of the chain with the main variable v, if there is one
-      at_have : (o : Option Polynomial) → member_in v chain ≡ o → IfSome (children_at p n w chain rest ns v f o) (InSomeTask r xs)
-      at_have None e = extended_has
-      at_have (Some t) e = then_holds (InSomeTask r xs) (remainder_rows_within (list_operations p n) w v (plains (members_below v chain)) (plain t) (plain f)) (λ x. Some (children_by_rows p n w chain rest ns v f x)) (λ x made. subst (λ y. InSomeTask r xs (children_by_rows p n w chain rest ns v f y)) (sym (subst (λ o. IfSome o (λ y. y ≡ rows p n prime w v (members_below v chain) t f (start t e))) made (gives-remainder_rows (list_operations p n) w v (plains (members_below v chain)) (plain t) (plain f)))) (rows_have t e))
-
-    -- by the main variable of the head, if there is one
-    of_have : (f : Polynomial) (o : Option ℕ) → main_var f ≡ o → IsHead p n chain f → value_at r xs f ≡ r.nil → IfSome (children_of p n w chain rest ns f o) (InSomeTask r xs)
-    of_have f None e head zero_f = choose (λ o. IfSome o (InSomeTask r xs)) (is_zero f) (Some (child_without p n w chain rest ns ∷ [])) (Some []) (λ z. inl (in_chain, in_rest, nonzero)) (λ some. absurd (constant_nonzero p n prime r domain xs point f head.canonical (ap is_no_variable e) (not_zero_by_test f some) zero_f))
-    of_have f (Some v) e head zero_f = at_have v f head e zero_f (member_in v chain) refl
-
     -- for a polynomial that is zero at the point
     pub children_have : (f : Polynomial) → IsPolynomial p n f → value_at r xs f ≡ r.nil → IfSome (impose_children p n w chain rest ns f) (InSomeTask r xs)
-    children_have f i zero_f = then_holds (InSomeTask r xs) (reduced_head p n w chain rest ns f) (λ g. children_of p n w chain rest ns g (main_var g)) (λ g made. of_have g (main_var g) refl (head_is_head p n w prime chain ns are are_ns triangular f g rest i made) (subst (λ x. value_at r xs x ≡ r.nil) (sym (head_is p n w prime chain ns are are_ns triangular f g rest made)) (stripped_zero p n w prime r domain xs point ns are_ns nonzero (reduced_by p n w prime chain ns are are_ns triangular f) (IsPolynomial-reduced_by p n w prime chain ns are are_ns triangular f i) (reduction_zero p n prime r domain xs point chain f are i in_chain.0 zero_f))))
+    children_have f i zero_f = by_children p n w prime chain rest ns are are_ns triangular f i (InSomeTask r xs) (λ g made head null. inl (in_chain, in_rest, nonzero)) (λ g made head some e. absurd (constant_nonzero p n prime r domain xs point g head.canonical (ap is_no_variable e) some (zero_head g made))) (λ v g made head main. extended_has v g head main (zero_head g made)) (λ v g t made head main found. rows_have v g head main (zero_head g made) t found)
+      where
+        zero_head : (g : Polynomial) → reduced_head p n w chain rest ns f ≡ Some g → value_at r xs g ≡ r.nil
+        zero_head g made = subst (λ x. value_at r xs x ≡ r.nil) (sym (head_is p n w prime chain ns are are_ns triangular f g rest made)) (stripped_zero p n w prime r domain xs point ns are_ns nonzero (reduced_by p n w prime chain ns are are_ns triangular f) (IsPolynomial-reduced_by p n w prime chain ns are are_ns triangular f i) (reduction_zero p n prime r domain xs point chain f are i in_chain.0 zero_f))
 
 -- the law of the cover
 pub children_cover_the_task : ChildrenCoverTheTask

@@ -1,13 +1,13 @@
 -- The reduced head of a queue, and where its remainder rows start.
-use Rattle.std.proofs.Common.{◌≡◌, ℕ, List, [], ◌∷◌, Option, Some, None, IfSome, refl, sym, ap, ◌∙◌, subst, lt_of_le_of_lt}
+use Rattle.std.proofs.Common.{◌≡◌, ℕ, suc, List, [], ◌∷◌, Some, IfSome, sym, ap, ◌∙◌, subst, lt_of_le_of_lt}
 use Rattle.std.specs.List.{AllByRecursion}
 use Rattle.polynomials.specs.Primes.{IsPrime}
 use Rattle.polynomials.specs.Polynomials.{Polynomial, IsPolynomial, ArePolynomials}
-use Rattle.polynomials.specs.Views.{main_var}
+use Rattle.polynomials.specs.Views.{main_var, IsFreeOf}
 use Rattle.polynomials.proofs.MainVariables.{degree_in_main_var}
-use Rattle.zero_sets.specs.ZeroSets.{IsTriangular, member_in, members_below}
+use Rattle.zero_sets.specs.ZeroSets.{IsTriangularFrom, IsTriangular, member_in, members_below}
 use Rattle.division_rules.specs.Rows.{Row, plain, plains, reduction}
-use Rattle.division_rules.specs.Within.{and_then, reduction_within}
+use Rattle.division_rules.specs.Within.{reduction_within}
 use Rattle.division_rules.specs.Lists.{list_operations}
 use Rattle.division_rules.specs.Chains.{EachRow}
 use Rattle.division_rules.specs.Triangular.{HasLessDegree}
@@ -18,8 +18,10 @@ use Rattle.division_rules.proofs.Up.{plains_canonical}
 use Rattle.impose_rules.specs.Factors.{stripped}
 use Rattle.impose_rules.specs.Impose.{reduced_head}
 use Rattle.impose_laws.proofs.Lists.{each_implied, each_both}
+use Rattle.impose_laws.proofs.Options.{then_some}
 use Rattle.impose_laws.proofs.RowStarts.{IsStart, triangular_rows}
-use Rattle.impose_laws.proofs.Stripped.{IsPolynomial-stripped, degree_in-stripped}
+use Rattle.impose_laws.proofs.RowShapes.{reduction_without}
+use Rattle.impose_laws.proofs.Stripped.{IsPolynomial-stripped, degree_in-stripped, stripped_free}
 use Rattle.impose_laws.proofs.ChainParts.{each_canonical, canonical_each, member_of_chain, each_below, below_are_below, below_triangular}
 
 -- a canonical polynomial that is reduced by the chain
@@ -31,10 +33,10 @@ each_plain : (Q : Row Polynomial → Type 0) (chain : List Polynomial) → EachR
 each_plain Q [] h = tt
 each_plain Q (t ∷ chain) h = (h.0, each_plain Q chain h.1)
 
--- what comes of a second step comes of a result of the first
-pub then_some : {A B : Type 0} (x : Option A) (f : A → Option B) (y : B) → and_then x f ≡ Some y → (a : A) × (x ≡ Some a) × (f a ≡ Some y)
-then_some None f y e = cc
-then_some (Some a) f y e = (a, refl, e)
+-- each member of a triangular set has a main variable
+each_main : (v : ℕ) (chain : List Polynomial) → IsTriangularFrom v chain → AllByRecursion (λ t. (u : ℕ) × (main_var t ≡ Some u)) chain
+each_main v [] h = tt
+each_main v (t ∷ chain) h = ((h.0, h.1), each_main (suc h.0) chain h.3)
 
 module _ (p n w : ℕ) (prime : IsPrime p) (chain ns : List Polynomial) (are : ArePolynomials p n chain) (are_ns : ArePolynomials p n ns) (triangular : IsTriangular chain) where
   -- the reduction of the first of the queue, without a limit
@@ -58,6 +60,10 @@ module _ (p n w : ℕ) (prime : IsPrime p) (chain ns : List Polynomial) (are : A
     canonical = IsPolynomial-stripped p n w prime ns are_ns (reduced_by f) (IsPolynomial-reduced_by f i);
     reduced = each_implied (λ u. HasLessDegree (reduced_by f) (plain u)) (λ u. HasLessDegree (stripped p w ns (reduced_by f)) (plain u)) (λ u h v main. lt_of_le_of_lt (degree_in-stripped p n w prime ns are_ns v (reduced_by f) (IsPolynomial-reduced_by f i)) (h v main)) chain (each_plain (HasLessDegree (reduced_by f)) chain (reduction_is_reduced p n (plains chain) (plain f) prime (plains_canonical p n prime.many chain are) (i, tt) (triangular_rows 0 chain triangular)));
   })
+
+  -- a variable that occurs neither in the chain nor in f doesn't occur in the head
+  pub head_without : (x : ℕ) (f r : Polynomial) (rest : List Polynomial) → IsPolynomial p n f → reduced_head p n w chain rest ns f ≡ Some r → AllByRecursion (IsFreeOf x) chain → IsFreeOf x f → IsFreeOf x r
+  head_without x f r rest i e free_chain free_f = subst (IsFreeOf x) (sym (head_is f r rest e)) (stripped_free p n w prime ns are_ns x (reduced_by f) (IsPolynomial-reduced_by f i) (reduction_without p n prime x chain f are i (each_main 0 chain triangular) free_chain free_f))
 
   -- with the polynomial of the chain for its main variable it starts remainder rows
   pub start_of : (v : ℕ) (r t : Polynomial) → IsHead p n chain r → main_var r ≡ Some v → member_in v chain ≡ Some t → IsStart p n v (members_below v chain) t r

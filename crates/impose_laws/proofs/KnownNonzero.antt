@@ -1,5 +1,5 @@
--- Polynomials that don't vanish, with further ones added: at points, canonical, and as they were.
-use Rattle.std.proofs.Common.{◌≡◌, ◌≢◌, inl, inr, ℕ, zero, suc, ◌<◌, true, false, List, [], ◌∷◌, ◌++◌, sym, subst, arith}
+-- Polynomials that are known nonzero are not zero at a point, nor are those with further ones added.
+use Rattle.std.proofs.Common.{◌≡◌, ◌≢◌, inl, inr, ℕ, zero, suc, ◌<◌, true, List, [], ◌∷◌, ◌++◌, sym, subst, arith}
 use Rattle.std.proofs.lemmas.Bool.{or_cases}
 use Rattle.polynomials.specs.Primes.{IsPrime}
 use Rattle.polynomials.specs.Polynomials.{Polynomial, IsPolynomial, ArePolynomials, monic, constant_of, same_polynomial}
@@ -49,13 +49,3 @@ module _ (p n : ℕ) (prime : IsPrime p) where
     pub with_all_points : (ns hs : List Polynomial) → ArePolynomials p n hs → AreNonZero r xs ns → AreNonZero r xs hs → AreNonZero r xs (with_all_nonzero p ns hs)
     with_all_points ns [] are nonzero some = nonzero
     with_all_points ns (h ∷ hs) are nonzero some = with_all_points (with_nonzero p ns h) hs are.1 (with_nonzero_points ns h are.0 nonzero some.0) some.1
-
-  -- lists one after the other are canonical
-  pub ArePolynomials-append : (fs gs : List Polynomial) → ArePolynomials p n fs → ArePolynomials p n gs → ArePolynomials p n (fs ++ gs)
-  ArePolynomials-append [] gs h k = k
-  ArePolynomials-append (f ∷ fs) gs h k = (h.0, ArePolynomials-append fs gs h.1 k)
-
-  module _ (Q : List Polynomial → Type 0) (step : (ns : List Polynomial) (h : Polynomial) → IsPolynomial p n h → is_known_nonzero p ns h ≡ false → Q ns → Q (ns ++ monic p h ∷ [])) where
-    -- what is kept where the monic form is appended is kept where one is added
-    pub with_nonzero-keeps : (ns : List Polynomial) (h : Polynomial) → IsPolynomial p n h → Q ns → Q (with_nonzero p ns h)
-    with_nonzero-keeps ns h i q = choose Q (is_known_nonzero p ns h) ns (ns ++ monic p h ∷ []) (λ e. q) (λ e. step ns h i e q)

@@ -1,13 +1,22 @@
-mod RowStarts
-mod RowShapes
-mod RowPoints
-mod Lists
-mod MonicForms
-mod Stripped
-mod StrippedPoints
-mod KnownNonzero
-mod ChainParts
-mod Heads
-mod CommonRows
-mod LeadCases
-mod Cover
+mod Examples
+pub mod RowStarts
+pub mod RowShapes
+pub mod RowPoints
+pub mod Lists
+pub mod Options
+pub mod MonicForms
+pub mod Stripped
+pub mod StrippedPoints
+pub mod KnownNonzero
+pub mod ChainParts
+pub mod Heads
+pub mod ChildrenCases
+pub mod CommonRows
+pub mod LeadCases
+pub mod Cover
+pub mod NonzeroForms
+pub mod Forms
+pub mod KeptForms
+pub mod FewChildren
+pub mod ChangedMembers
+pub mod CaseNumbers

@@ -1,19 +1,12 @@
 -- Monic forms have the degrees of the polynomial, and leads that are multiples by constants.
-use Rattle.std.proofs.Common.{◌≡◌, ◌≢◌, ℕ, ◌<◌, [], ◌∷◌, Some, refl, sym, ap, ◌∙◌, subst, arith}
+use Rattle.std.proofs.Common.{◌≡◌, ◌≢◌, ℕ, ◌<◌, [], ◌∷◌, refl, sym, ap, ◌∙◌, arith}
 use Rattle.polynomials.specs.Primes.{IsPrime}
 use Rattle.polynomials.specs.Polynomials.{Polynomial, IsPolynomial, product_of, constant_of, monic}
-use Rattle.polynomials.specs.Views.{degree_in, lead_in, main_var}
+use Rattle.polynomials.specs.Views.{degree_in, lead_in}
 use Rattle.polynomials.proofs.Canonical.{IsPolynomial-constant_of}
 use Rattle.polynomials.proofs.ConstantLemmas.{constant_of_nonzero, constant_of_free, constant_of-product_of}
 use Rattle.polynomials.proofs.DegreesOfProducts.{degree_of_product, lead_of_product}
-use Rattle.polynomials.proofs.MainVariables.{main_variable_is_greatest}
 use Rattle.polynomials.proofs.MonicLemmas.{IsPolynomial-monic, scaled-monic}
-
--- polynomials of the same degrees have the same main variable
-pub main_var-same_degrees : (v : ℕ) (f g : Polynomial) → ((x : ℕ) → degree_in x f ≡ degree_in x g) → main_var f ≡ Some v → main_var g ≡ Some v
-main_var-same_degrees v f g same e =
-    let greatest = (main_variable_is_greatest v f).0 e in
-    (main_variable_is_greatest v g).1 (subst (λ d. 0 < d) (same v) greatest.0, λ x less. sym (same x) ∙ greatest.1 x less)
 
 module _ (p n : ℕ) (prime : IsPrime p) where
   -- a polynomial is a constant times its monic form

@@ -1,5 +1,5 @@
 -- Reductions and remainder rows of lists of terms at points of a finite domain.
-use Rattle.std.proofs.Common.{◌≡◌, ◌≢◌, ℕ, ◌<◌, List, [], ◌∷◌, Option, Some, option_map, refl, sym, ap, ◌∙◌, subst, arith}
+use Rattle.std.proofs.Common.{◌≡◌, ◌≢◌, ℕ, ◌<◌, List, [], ◌∷◌, Some, option_map, refl, sym, ap, ◌∙◌, subst, arith}
 use Rattle.polynomials.specs.Primes.{IsPrime}
 use Rattle.polynomials.specs.Polynomials.{Polynomial, IsPolynomial, ArePolynomials}
 use Rattle.polynomials.specs.Views.{lead_in, IsFreeOf}
@@ -23,10 +23,6 @@ use Rattle.division_rules.proofs.Down.{down, down_all, down-reduction}
 use Rattle.division_rules.proofs.DownRows.{down_rows}
 use Rattle.impose_laws.proofs.RowStarts.{IsStart, P, lifted, down-lifted, apart_from, free_of, below_rows, row_t, row_c, start_base, start_turn}
 use Rattle.impose_laws.proofs.RowShapes.{lifted_rows, rows, down-lifted_rows}
-
--- what is there is what it was made of
-mapped_some : {A B : Type 0} (h : A → B) (x : Option A) (y : A) → x ≡ Some y → option_map h x ≡ Some (h y)
-mapped_some h x y e = ap (option_map h) e
 
 module _ (p n : ℕ) (prime : IsPrime p) (r : Tables) (domain : IsFiniteDomain p r) (xs : List ℕ) (point : IsPoint r xs) where
   -- values at the point

@@ -1,14 +1,14 @@
--- What is left of a polynomial without factors, made monic: canonical, not 0, with no greater degree.
+-- What is left of a polynomial without factors, made monic: canonical, with no greater degree.
 use Rattle.std.proofs.Common.{◌≡◌, ◌≢◌, ℕ, ◌<◌, ◌≤◌, false, List, [], Some, Contains, refl, ap, ◌∙◌, arith}
 use Rattle.std.specs.List.{AllByRecursion}
 use Rattle.polynomials.specs.Primes.{IsPrime}
 use Rattle.polynomials.specs.Polynomials.{Polynomial, IsPolynomial, ArePolynomials}
 use Rattle.polynomials.specs.Views.{degree_in, main_var, is_constant, IsFreeOf}
 use Rattle.polynomials.proofs.MainVariables.{main_variable_is_greatest}
-use Rattle.polynomials.proofs.MonicLemmas.{IsPolynomial-monic, monic_zero}
+use Rattle.polynomials.proofs.MonicLemmas.{IsPolynomial-monic}
 use Rattle.division_rules.specs.Quotients.{quotient_within, without_factors}
 use Rattle.division_rules.proofs.QuotientFacts.{quotient_within_nonzero, quotient_within_degree}
-use Rattle.division_rules.proofs.Factors.{without_factors_relates, IsPolynomial-without_factors, without_factors_nonzero, degree_in-without_factors}
+use Rattle.division_rules.proofs.Factors.{without_factors_relates, IsPolynomial-without_factors, degree_in-without_factors}
 use Rattle.impose_rules.specs.Factors.{stripped}
 use Rattle.impose_laws.proofs.Lists.{each_member}
 use Rattle.impose_laws.proofs.MonicForms.{degree_in-monic}
@@ -17,10 +17,6 @@ module _ (p n w : ℕ) (prime : IsPrime p) (bs : List Polynomial) (are : ArePoly
   -- it is canonical
   pub IsPolynomial-stripped : (f : Polynomial) → IsPolynomial p n f → IsPolynomial p n (stripped p w bs f)
   IsPolynomial-stripped f i = IsPolynomial-monic p n (without_factors p w bs f) prime (IsPolynomial-without_factors p n w prime bs f are i)
-
-  -- and 0 only where f is
-  pub stripped_nonzero : (f : Polynomial) → IsPolynomial p n f → f ≢ [] → stripped p w bs f ≢ []
-  stripped_nonzero f i some none = without_factors_nonzero p n w prime bs f are i some (monic_zero p (without_factors p w bs f) none)
 
   -- no degree rises
   pub degree_in-stripped : (v : ℕ) (f : Polynomial) → IsPolynomial p n f → degree_in v (stripped p w bs f) ≤ degree_in v f

@@ -1,2 +1,3 @@
 pub mod TaskForms
+pub mod PartLaws
 pub mod Laws
