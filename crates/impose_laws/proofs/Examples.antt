@@ -1,0 +1,53 @@
+-- The words of the laws, tried on the children of x y modulo 5.
+use Rattle.std.proofs.Common.{◌≡◌, true, false, [], ◌∷◌, Some, inl, inr, refl, lit≤}
+use Rattle.polynomials.specs.Polynomials.{Polynomial, term}
+use Rattle.zero_sets.specs.Tasks.{Task, InTask}
+use Rattle.zero_sets.proofs.PrimeFields.{residue_tables}
+use Rattle.impose_rules.specs.Impose.{impose_children}
+use Rattle.impose_laws.specs.TaskForms.{IsTaskOver, IsTaskFreeOf, InSomeTask}
+use Rattle.impose_laws.specs.PartLaws.{is_unknown}
+
+abbrev x : Polynomial
+x = term (1 ∷ 0 ∷ []) 1 ∷ []
+
+abbrev y : Polynomial
+y = term (0 ∷ 1 ∷ []) 1 ∷ []
+
+abbrev x_y : Polynomial
+x_y = term (1 ∷ 1 ∷ []) 1 ∷ []
+
+abbrev root : Task
+root = record { chain = []; queue = x_y ∷ []; nonzero = [] }
+
+abbrev first : Task
+first = record { chain = y ∷ []; queue = []; nonzero = x ∷ [] }
+
+abbrev second : Task
+second = record { chain = []; queue = x ∷ [] ∷ []; nonzero = [] }
+
+over_the_field : IsTaskOver 5 2 root
+over_the_field = (tt, ((refl, lit≤ tt, lit≤ tt, tt, tt), tt), tt)
+
+without_a_third_variable : IsTaskFreeOf 2 root
+without_a_third_variable = (tt, (refl, tt), tt)
+
+children : impose_children 5 2 100 [] [] [] x_y ≡ Some (first ∷ second ∷ [])
+children = refl
+
+-- at x = 0 and y = 3 the point is in the second child alone
+in_the_root : InTask (residue_tables 5) (0 ∷ 3 ∷ []) root
+in_the_root = ((tt, tt), (refl, tt), tt)
+
+in_a_child : InSomeTask (residue_tables 5) (0 ∷ 3 ∷ []) (first ∷ second ∷ [])
+in_a_child = inr (inl ((tt, tt), (refl, (refl, tt)), tt))
+
+not_in_the_first : InSomeTask (residue_tables 5) (0 ∷ 3 ∷ []) (first ∷ []) → ⊥
+not_in_the_first (inl h) = h.2.0 refl
+not_in_the_first (inr h) = h
+
+-- of the leads x and y, the second is unknown, and isn't where it is known from the start
+second_is_unknown : is_unknown 5 [] (x ∷ y ∷ []) 2 ≡ true
+second_is_unknown = refl
+
+second_is_known : is_unknown 5 (y ∷ []) (x ∷ y ∷ []) 2 ≡ false
+second_is_known = refl

@@ -1,0 +1,3 @@
+pub mod TaskForms
+pub mod PartLaws
+pub mod Laws

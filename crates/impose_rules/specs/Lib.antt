@@ -1,0 +1,4 @@
+pub mod Factors
+pub mod Leads
+pub mod Chains
+pub mod Impose

@@ -1,0 +1,2 @@
+//! What one polynomial makes of a task whose chain it is imposed on: definitions.
+#![tactic(auto)]
