@@ -1,0 +1,4 @@
+pub mod Words
+pub mod Combinations
+pub mod Values
+pub mod Vanishing
