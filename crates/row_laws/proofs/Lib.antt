@@ -6,3 +6,6 @@ pub mod ValueLaws
 pub mod ReductionValues
 pub mod CombinationRows
 pub mod VanishingRows
+pub mod DegreeLaws
+pub mod ReducedRows
+pub mod FallingRows

@@ -2,3 +2,4 @@ pub mod Words
 pub mod Combinations
 pub mod Values
 pub mod Vanishing
+pub mod Degrees

@@ -1,5 +1,6 @@
 ghost use Rattle.row_laws.specs.Combinations.{CombinationsAreKept};
 ghost use Rattle.row_laws.specs.Values.{DivisionsMultiplyValues, ReductionsMultiplyValues, ReductionsKeepZeros, ReductionsHaveSameZeros, ReducedToZeroVanishes, CombinationsKeepZeros};
+ghost use Rattle.row_laws.specs.Degrees.{RemaindersHaveLessDegree, DivisionsKeepDegrees, ReductionsKeepDegrees, ReducedStaysSame, ReducedByMore, RemainderRowsFall, RemainderRowsAreFree};
 ghost use Rattle.row_laws.specs.Vanishing.{RemainderRowsVanish};
 
 /// Rows stay combinations of their generators through each step of division.
@@ -40,4 +41,39 @@ pub fn combinations_keep_zeros()
 /// Where `t`, `c` and the chain are zero, a remainder row is zero as long as no earlier lead is.
 pub fn remainder_rows_vanish()
     ensures { RemainderRowsVanish }
+{}
+
+/// Remainders have less degree than the divisor.
+pub fn remainders_have_less_degree()
+    ensures { RemaindersHaveLessDegree }
+{}
+
+/// Divisions don't raise degrees in variables that the divisor doesn't have.
+pub fn divisions_keep_degrees()
+    ensures { DivisionsKeepDegrees }
+{}
+
+/// Nor do reductions.
+pub fn reductions_keep_degrees()
+    ensures { ReductionsKeepDegrees }
+{}
+
+/// What is reduced is its own reduction.
+pub fn reduced_stays_same()
+    ensures { ReducedStaysSame }
+{}
+
+/// Polynomials that reduce nothing can be left out at the end of a triangular set.
+pub fn reduced_by_more()
+    ensures { ReducedByMore }
+{}
+
+/// Remainder rows aren't 0, are reduced, and have falling degrees.
+pub fn remainder_rows_fall()
+    ensures { RemainderRowsFall }
+{}
+
+/// Remainder rows have no other variables than the rows that they are made of.
+pub fn remainder_rows_are_free()
+    ensures { RemainderRowsAreFree }
 {}
