@@ -37,12 +37,12 @@ module _ (p n : ℕ) (prime : IsPrime p) where
   abbrev P : ViewedRing (CanonicalPolynomial p n)
   P = polynomial_setting p n prime
 
-  length-up_all : (fs : List Polynomial) (are : ArePolynomials p n fs) → length (up_all p n prime.many fs are) ≡ length fs
+  pub length-up_all : (fs : List Polynomial) (are : ArePolynomials p n fs) → length (up_all p n prime.many fs are) ≡ length fs
   length-up_all [] are = refl
   length-up_all (f ∷ fs) are = ap suc (length-up_all fs are.1)
 
   -- 0 and 1 among zeros
-  terms-zeros : (k : ℕ) → terms_all p n prime.many (replicate k (canonical_operations p n prime.many).nil) ≡ replicate k []
+  pub terms-zeros : (k : ℕ) → terms_all p n prime.many (replicate k (canonical_operations p n prime.many).nil) ≡ replicate k []
   terms-zeros zero = refl
   terms-zeros (suc k) = ap (λ fs. [] ∷ fs) (terms-zeros k)
 

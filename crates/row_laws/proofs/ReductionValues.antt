@@ -1,5 +1,5 @@
 -- Values of reductions at points where the chain is zero.
-use Rattle.std.proofs.Common.{◌≡◌, ℕ, List, [], ◌∷◌, map, All, Contains, refl, sym, ap, ap₂, ◌∙◌, subst}
+use Rattle.std.proofs.Common.{◌≡◌, ℕ, suc, List, [], ◌∷◌, map, All, Contains, refl, sym, ap, ap₂, ◌∙◌, subst}
 use Rattle.polynomials.specs.Primes.{IsPrime}
 use Rattle.polynomials.specs.Polynomials.{Polynomial, IsPolynomial, ArePolynomials}
 use Rattle.polynomials.specs.Views.{initial_of}
@@ -7,6 +7,8 @@ use Rattle.polynomials.proofs.PolynomialRing.{CanonicalPolynomial}
 use Rattle.zero_sets.specs.Domains.{Tables, IsFiniteDomain, IsPoint, times_in, value_at}
 use Rattle.zero_sets.specs.ZeroSets.{InZeroSet, AreNonZero}
 use Rattle.zero_sets.proofs.TableRings.{Element}
+use Rattle.division_rules.specs.Lists.{list_operations}
+use Rattle.division_rules.specs.Units.{unit_rows}
 use Rattle.division_rules.specs.Rows.{Row, plain, plains, reduction}
 use Rattle.division_rules.proofs.CanonicalViews.{canonical_operations}
 use Rattle.division_rules.proofs.Down.{terms_all}
@@ -25,6 +27,11 @@ use Rattle.row_laws.proofs.Initials.{terms-product_of_all, initial_members}
 pub first_entries-plains : (fs : List Polynomial) → first_entries (plains fs) ≡ fs
 first_entries-plains [] = refl
 first_entries-plains (f ∷ fs) = ap (λ x. f ∷ x) (first_entries-plains fs)
+
+-- so have the rows of generators
+pub first_entries-unit_rows : (p n before : ℕ) (fs : List Polynomial) → first_entries (unit_rows (list_operations p n) before fs) ≡ fs
+first_entries-unit_rows p n before [] = refl
+first_entries-unit_rows p n before (f ∷ fs) = ap (λ x. f ∷ x) (first_entries-unit_rows p n (suc before) fs)
 
 module _ (p n : ℕ) (prime : IsPrime p) (chain : List Polynomial) (are : ArePolynomials p n chain) where
   -- the chain as rows of canonical polynomials

@@ -1,0 +1,5 @@
+pub mod DownSteps
+pub mod GeneratorLists
+pub mod CofactorRows
+pub mod LeadPoints
+pub mod ReducedCofactors
