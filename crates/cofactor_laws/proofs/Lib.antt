@@ -1,3 +1,4 @@
+mod Examples
 pub mod DownSteps
 pub mod GeneratorLists
 pub mod CofactorRows
