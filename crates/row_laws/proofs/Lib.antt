@@ -9,3 +9,5 @@ pub mod VanishingRows
 pub mod DegreeLaws
 pub mod ReducedRows
 pub mod FallingRows
+pub mod ScaledSteps
+pub mod ScaledReductions

@@ -3,3 +3,4 @@ pub mod Combinations
 pub mod Values
 pub mod Vanishing
 pub mod Degrees
+pub mod Scaling

@@ -1,6 +1,7 @@
 ghost use Rattle.row_laws.specs.Combinations.{CombinationsAreKept};
 ghost use Rattle.row_laws.specs.Values.{DivisionsMultiplyValues, ReductionsMultiplyValues, ReductionsKeepZeros, ReductionsHaveSameZeros, ReducedToZeroVanishes, CombinationsKeepZeros};
 ghost use Rattle.row_laws.specs.Degrees.{RemaindersHaveLessDegree, DivisionsKeepDegrees, ReductionsKeepDegrees, ReducedStaysSame, ReducedByMore, RemainderRowsFall, RemainderRowsAreFree};
+ghost use Rattle.row_laws.specs.Scaling.{ReductionsOfMultiples, MonicReducesAlike};
 ghost use Rattle.row_laws.specs.Vanishing.{RemainderRowsVanish};
 
 /// Rows stay combinations of their generators through each step of division.
@@ -76,4 +77,14 @@ pub fn remainder_rows_fall()
 /// Remainder rows have no other variables than the rows that they are made of.
 pub fn remainder_rows_are_free()
     ensures { RemainderRowsAreFree }
+{}
+
+/// The reduction of a multiple by a constant is the multiple of the reduction.
+pub fn reductions_of_multiples()
+    ensures { ReductionsOfMultiples }
+{}
+
+/// A polynomial reduces to 0 exactly where its monic form does.
+pub fn monic_reduces_alike()
+    ensures { MonicReducesAlike }
 {}
