@@ -1,0 +1,6 @@
+mod Examples
+pub mod DownSteps
+pub mod GeneratorLists
+pub mod CofactorRows
+pub mod LeadPoints
+pub mod ReducedCofactors

@@ -1,0 +1,148 @@
+-- What follows where the zero row's first cofactor reduces to 0.
+use Rattle.std.proofs.Common.{◌≡◌, ℕ, zero, suc, ◌<◌, ◌≤◌, List, [], ◌∷◌, ◌++◌, length, replicate, get_or, Some, refl, sym, ap, ◌∙◌, subst, arith}
+use Rattle.polynomials.specs.Primes.{IsPrime}
+use Rattle.polynomials.specs.Polynomials.{Polynomial, IsPolynomial, ArePolynomials, one_of}
+use Rattle.polynomials.specs.Views.{degree_in, main_var, IsFreeOf}
+use Rattle.polynomials.proofs.ExponentsBelow.{ExponentsBelow-one}
+use Rattle.polynomials.proofs.MainVariables.{degree_in_main_var, free_above_main_var}
+use Rattle.polynomials.proofs.PolynomialRing.{CanonicalPolynomial, canonical_path}
+use Rattle.zero_sets.specs.ZeroSets.{IsTriangularFrom}
+use Rattle.zero_sets.specs.Certificates.{LacksVariable, IsFreeOfMain}
+use Rattle.division_rules.specs.Chains.{EachRow, IfRow}
+use Rattle.division_rules.specs.Lists.{list_operations}
+use Rattle.division_rules.specs.PolynomialRows.{IsPolynomialRow, ArePolynomialRows}
+use Rattle.division_rules.specs.Rows.{Row, plain, plains, reduction}
+use Rattle.division_rules.specs.Triangular.{HasLessDegree}
+use Rattle.division_rules.specs.Turns.{DegreesFall, last_row}
+use Rattle.division_rules.specs.Units.{unit_rows}
+use Rattle.division_rules.specs.Cofactors.{first_cofactor}
+use Rattle.division_rules.proofs.CanonicalViews.{canonical_operations}
+use Rattle.division_rules.proofs.FreeNonzero.{one_free_nonzero}
+use Rattle.division_rules.proofs.ListLaws.{free_above_main}
+use Rattle.division_rules.proofs.PolynomialSetting.{polynomial_setting}
+use Rattle.division_rules.proofs.Up.{down_canonical, down_all_canonical}
+use Rattle.row_laws.specs.Words.{first_entries, reduction_of, AreBelow, IsReducedBy, StartRemainderRows}
+use Rattle.row_laws.specs.Degrees.{AreFreeOf, IsRowFreeOf}
+use Rattle.row_laws.proofs.FallingRows.{remainder_rows_fall, remainder_rows_are_free}
+use Rattle.row_laws.proofs.Lifts.{lifted-reduction}
+use Rattle.row_laws.proofs.ReducedRows.{reduced_by_more}
+use Rattle.row_laws.proofs.ReductionValues.{first_entries-unit_rows}
+use Rattle.row_laws.proofs.Starts.{variable_below}
+use Rattle.cofactor_laws.specs.RowsWithCofactors.{row_of_c, row_of_t, rows_of_chain, rows_with_cofactors, EndWithZeroRow}
+use Rattle.cofactor_laws.specs.Laws.{StandsInTriangular, CofactorLeadIsZeroByLeads, ReducedCofactorShowsLead}
+use Rattle.cofactor_laws.proofs.CofactorRows.{last_cofactor_has_degree}
+use Rattle.cofactor_laws.proofs.DownSteps.{terms-first_cofactor}
+use Rattle.cofactor_laws.proofs.GeneratorLists.{canonical_chain, plain_rows_are, up-plains, second, first, chain_units, down-second, down-first, down-chain_units}
+use Rattle.cofactor_laws.proofs.LeadPoints.{zero_row_above, lead_shows_lead, reduction_shows_lead}
+
+-- what is there is the same
+same_there : {X : Type 0} (x y : X) → Some x ≡ Some y → x ≡ y
+same_there x y e = cc
+
+-- lists that follow one another are canonical
+ArePolynomials-append : (p n : ℕ) (fs gs : List Polynomial) → ArePolynomials p n fs → ArePolynomials p n gs → ArePolynomials p n (fs ++ gs)
+ArePolynomials-append p n [] gs f g = g
+ArePolynomials-append p n (x ∷ fs) gs f g = (f.0, ArePolynomials-append p n fs gs f.1 g)
+
+-- the row before the zero row has v
+last_occurs : (p n v : ℕ) (g : Row Polynomial) (later : List (Row Polynomial)) (z : Row Polynomial) → DegreesFall (list_operations p n) v g later (Some z) → 1 ≤ degree_in v (last_row g later).first
+last_occurs p n v g [] z falls = falls.0
+last_occurs p n v g (h ∷ later) z falls = last_occurs p n v h later z falls.2
+
+-- behind t main variables are greater than that of t
+main_variables_behind : (u v : ℕ) (chain more : List Polynomial) (t : Polynomial) → main_var t ≡ Some v → IsTriangularFrom u (chain ++ t ∷ more) → IsTriangularFrom (suc v) more
+main_variables_behind u v [] more t main (m, is, up_to, later) = subst (λ x. IsTriangularFrom (suc x) more) (same_there m v (sym is ∙ main)) later
+main_variables_behind u v (s ∷ chain) more t main (m, is, up_to, later) = main_variables_behind (suc m) v chain more t main later
+
+-- no polynomial with a lesser main variable has x
+chain_free : (v x : ℕ) (chain : List Polynomial) → v < x → AreBelow v chain → AreFreeOf x chain
+chain_free v x [] less below = tt
+chain_free v x (t ∷ chain) less below =
+    let smaller = variable_below v (main_var t) below.0 in
+    ((ExponentsBelow-one x t).0 (free_above_main t x (omega (arith, smaller, less))), chain_free v x chain less below.1)
+
+-- the first cofactor is free where the row is
+cofactor_free : (p n x : ℕ) (z : Row Polynomial) → IsRowFreeOf x z → IsFreeOf x (first_cofactor (list_operations p n) z)
+cofactor_free p n x z free = go z.cofactors free.1
+  where
+    go : (cs : List Polynomial) → AreFreeOf x cs → IsFreeOf x (get_or cs 0 [])
+    go [] h = refl
+    go (c ∷ cs) h = h.0
+
+module _ (p n : ℕ) (prime : IsPrime p) where
+  -- 0 and 1 have no variable
+  one_free : (x : ℕ) → IsFreeOf x (one_of n)
+  one_free x = (ExponentsBelow-one x (one_of n)).0 (one_free_nonzero (polynomial_setting p n prime) x).1
+
+  zeros_free : (x k : ℕ) → AreFreeOf x (replicate k [])
+  zeros_free x zero = tt
+  zeros_free x (suc k) = (refl, zeros_free x k)
+
+  unit_free : (x before behind : ℕ) → AreFreeOf x (replicate before [] ++ one_of n ∷ replicate behind [])
+  unit_free x zero behind = (one_free x, zeros_free x behind)
+  unit_free x (suc before) behind = (refl, unit_free x before behind)
+
+  rows_free : (x before : ℕ) (fs : List Polynomial) → AreFreeOf x fs → EachRow (IsRowFreeOf x) (unit_rows (list_operations p n) before fs)
+  rows_free x before [] free = tt
+  rows_free x before (f ∷ fs) free = ((free.0, unit_free x before (length fs)), rows_free x (suc before) fs free.1)
+
+module _ (p n w v : ℕ) (c t : Polynomial) (chain : List Polynomial) (z : Row Polynomial) (ends : EndWithZeroRow p n w v c t chain z) where
+  abbrev a : Polynomial
+  a = first_cofactor (list_operations p n) z
+
+  start_rows : StartRemainderRows v (first_entries (rows_of_chain p n chain)) t c
+  start_rows = subst (λ fs. StartRemainderRows v fs t c) (sym (first_entries-unit_rows p n 2 chain)) ends.start
+
+  are_rows : ArePolynomialRows p n (row_of_t n t chain ∷ row_of_c n c chain ∷ rows_of_chain p n chain)
+  are_rows = (subst (IsPolynomialRow p n) (down-second p n ends.prime w v c t chain ends.canonical ends.start) (down_canonical p n ends.prime.many (second p n ends.prime w v c t chain ends.canonical ends.start)), (subst (IsPolynomialRow p n) (down-first p n ends.prime w v c t chain ends.canonical ends.start) (down_canonical p n ends.prime.many (first p n ends.prime w v c t chain ends.canonical ends.start)), subst (ArePolynomialRows p n) (down-chain_units p n ends.prime w v c t chain ends.canonical ends.start) (down_all_canonical p n ends.prime.many (chain_units p n ends.prime w v c t chain ends.canonical ends.start))))
+
+  -- the cofactor has less degree than t
+  less_than_t : degree_in v a < degree_in v t
+  less_than_t =
+      let sum = last_cofactor_has_degree p n w v c t chain z ends in
+      let occurs = last_occurs p n v (row_of_c n c chain) (rows_with_cofactors p n w v c t chain).later z (subst (DegreesFall (list_operations p n) v (row_of_c n c chain) (rows_with_cofactors p n w v c t chain).later) ends.last (remainder_rows_fall p n w v (rows_of_chain p n chain) (row_of_t n t chain) (row_of_c n c chain) ends.prime are_rows start_rows).falls) in
+      omega (arith, sum, occurs)
+
+  -- and lacks each greater variable that c lacks
+  lacks_greater : (x : ℕ) → v < x → main_var t ≡ Some v → IsFreeOf x c → IsFreeOf x a
+  lacks_greater x less main free_c = cofactor_free p n x z (subst (IfRow (IsRowFreeOf x)) ends.last (remainder_rows_are_free p n w v x (rows_of_chain p n chain) (row_of_t n t chain) (row_of_c n c chain) ends.prime are_rows start_rows (λ same. omega (arith, less, same)) ((free_above_main_var v x t main less, unit_free p n ends.prime x 1 (length chain)), ((free_c, unit_free p n ends.prime x 0 (suc (length chain))), rows_free p n ends.prime x 2 chain (chain_free v x chain less ends.start.below)))).1)
+
+  -- so it is reduced by what follows t
+  reduced_behind : (u : ℕ) (more : List Polynomial) → v < u → main_var t ≡ Some v → IsTriangularFrom u more → IsFreeOfMain c more → IsReducedBy a more
+  reduced_behind u [] less main triangular free = tt
+  reduced_behind u (s ∷ more) less main (m, is, up_to, later) free = (by_s, reduced_behind (suc m) more (omega (arith, less, up_to)) main later free.1)
+    where
+      by_s : HasLessDegree a (plain s)
+      by_s x is_x =
+          let greater : v < x = subst (λ y. v < y) (same_there m x (sym is ∙ is_x)) (omega (arith, less, up_to)) in
+          let none : degree_in x a ≡ 0 = lacks_greater x greater main (subst (λ o. LacksVariable o c) is_x free.0) in
+          let some : 0 < degree_in x s = degree_in_main_var x s is_x in
+          omega (arith, none, some)
+
+  pub reduced_from_t : (more : List Polynomial) → StandsInTriangular p n v c t chain more → IsReducedBy a (t ∷ more)
+  reduced_from_t more stands = ((λ x is. subst (λ y. degree_in y a < degree_in y t) (same_there v x (sym stands.main ∙ is)) less_than_t), reduced_behind (suc v) more (omega arith) stands.main (main_variables_behind 0 v chain more t stands.main stands.triangular) stands.free)
+
+-- the laws
+pub cofactor_lead_is_zero_by_leads : CofactorLeadIsZeroByLeads
+cofactor_lead_is_zero_by_leads p n w v r xs c t chain z ends domain point others lead_t null = lead_shows_lead p n ends.prime r domain xs point w v c t chain ends.canonical ends.start z ends.last others lead_t null
+
+pub reduced_cofactor_shows_lead : ReducedCofactorShowsLead
+reduced_cofactor_shows_lead p n w v r xs c t chain more z ends stands domain point inside lead_t null = reduction_shows_lead p n ends.prime r domain xs point w v c t chain ends.canonical ends.start z ends.last inside.1 lead_t inside.0 (canonical_path p n _ _ reduces)
+  where
+    y : Row (CanonicalPolynomial p n)
+    y = (zero_row_above p n ends.prime r domain xs point w v c t chain ends.canonical ends.start z ends.last).0
+
+    b : CanonicalPolynomial p n
+    b = first_cofactor (canonical_operations p n ends.prime.many) y
+
+    is : b.0 ≡ first_cofactor (list_operations p n) z
+    is = terms-first_cofactor p n ends.prime.many y ∙ ap (first_cofactor (list_operations p n)) (zero_row_above p n ends.prime r domain xs point w v c t chain ends.canonical ends.start z ends.last).2
+
+    are : ArePolynomials p n (chain ++ t ∷ more)
+    are = ArePolynomials-append p n chain (t ∷ more) ends.canonical.1.1 (ends.canonical.1.0, stands.canonical)
+
+    shorter : reduction_of p n (chain ++ t ∷ more) (first_cofactor (list_operations p n) z) ≡ reduction_of p n chain (first_cofactor (list_operations p n) z)
+    shorter = reduced_by_more p n chain (t ∷ more) (first_cofactor (list_operations p n) z) ends.prime are (subst (IsPolynomial p n) is b.1) stands.triangular (reduced_from_t p n w v c t chain z ends more stands)
+
+    reduces : (reduction (canonical_operations p n ends.prime.many) (plains (canonical_chain p n ends.prime w v c t chain ends.canonical ends.start)) (plain b)).first.0 ≡ []
+    reduces = ap (λ rows. (reduction (canonical_operations p n ends.prime.many) rows (plain b)).first.0) (sym (up-plains p n ends.prime chain ends.canonical.1.1)) ∙ ap (λ h. h.first) (lifted-reduction p n ends.prime.many (plains chain) (plain_rows_are p n chain ends.canonical.1.1) (plain b.0) (b.1, tt)) ∙ ap (reduction_of p n chain) is ∙ sym shorter ∙ null

@@ -1,0 +1,2 @@
+pub mod RowsWithCofactors
+pub mod Laws

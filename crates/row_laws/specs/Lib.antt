@@ -1,0 +1,6 @@
+pub mod Words
+pub mod Combinations
+pub mod Values
+pub mod Vanishing
+pub mod Degrees
+pub mod Scaling

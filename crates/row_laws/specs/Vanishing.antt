@@ -1,0 +1,20 @@
+-- Remainder rows at points where the first two and the chain are zero.
+use Rattle.std.specs.Prelude.{◌≡◌, ℕ, List, ◌∷◌, take, slice_get, Some}
+use Rattle.polynomials.specs.Primes.{IsPrime}
+use Rattle.polynomials.specs.Polynomials.{Polynomial}
+use Rattle.zero_sets.specs.Domains.{Tables, IsFiniteDomain, IsPoint, value_at}
+use Rattle.zero_sets.specs.ZeroSets.{InZeroSet, AreNonZero}
+use Rattle.division_rules.specs.Lists.{list_operations}
+use Rattle.division_rules.specs.PolynomialRows.{ArePolynomialRows}
+use Rattle.division_rules.specs.Rows.{Row}
+use Rattle.division_rules.specs.RemainderRows.{remainder_rows, leads}
+use Rattle.row_laws.specs.Words.{first_entries, StartRemainderRows}
+
+-- of the rows after c, the one at place i (from 0) is zero at the point where none of the first i
+-- leads of c and these rows is: no lead is asked of that row, nor of the row before it
+abbrev pub AreZeroByLeads : ℕ → ℕ → ℕ → Tables → List ℕ → Row Polynomial → List (Row Polynomial) → Type 0
+AreZeroByLeads p n v r xs c later = (i : ℕ) (h : Row Polynomial) → slice_get later i ≡ Some h → AreNonZero r xs (take i (leads (list_operations p n) v (c ∷ later))) → value_at r xs h.first ≡ r.nil
+
+-- so are the remainder rows, with cofactors or without, where t, c and the chain are zero
+abbrev pub RemainderRowsVanish : Type 0
+RemainderRowsVanish = (p n w v : ℕ) (r : Tables) (xs : List ℕ) (chain : List (Row Polynomial)) (t c : Row Polynomial) → IsPrime p → IsFiniteDomain p r → IsPoint r xs → ArePolynomialRows p n (t ∷ c ∷ chain) → StartRemainderRows v (first_entries chain) t.first c.first → InZeroSet r xs (first_entries (t ∷ c ∷ chain)) → AreZeroByLeads p n v r xs c (remainder_rows (list_operations p n) w v chain t c).later

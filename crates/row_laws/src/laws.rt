@@ -1,0 +1,90 @@
+ghost use Rattle.row_laws.specs.Combinations.{CombinationsAreKept};
+ghost use Rattle.row_laws.specs.Values.{DivisionsMultiplyValues, ReductionsMultiplyValues, ReductionsKeepZeros, ReductionsHaveSameZeros, ReducedToZeroVanishes, CombinationsKeepZeros};
+ghost use Rattle.row_laws.specs.Degrees.{RemaindersHaveLessDegree, DivisionsKeepDegrees, ReductionsKeepDegrees, ReducedStaysSame, ReducedByMore, RemainderRowsFall, RemainderRowsAreFree};
+ghost use Rattle.row_laws.specs.Scaling.{ReductionsOfMultiples, MonicReducesAlike};
+ghost use Rattle.row_laws.specs.Vanishing.{RemainderRowsVanish};
+
+/// Rows stay combinations of their generators through each step of division.
+pub fn combinations_are_kept()
+    ensures { CombinationsAreKept }
+{}
+
+/// Divisions by what is zero multiply the value by powers of the value of its lead.
+pub fn divisions_multiply_values()
+    ensures { DivisionsMultiplyValues }
+{}
+
+/// Where a list of polynomials is zero, a reduction by it multiplies the value by initials.
+pub fn reductions_multiply_values()
+    ensures { ReductionsMultiplyValues }
+{}
+
+/// There a reduction is zero where the polynomial is.
+pub fn reductions_keep_zeros()
+    ensures { ReductionsKeepZeros }
+{}
+
+/// On the quasi-component a reduction is zero exactly where the polynomial is.
+pub fn reductions_have_same_zeros()
+    ensures { ReductionsHaveSameZeros }
+{}
+
+/// A polynomial that reduces to 0 vanishes on the quasi-component.
+pub fn reduced_to_zero_vanishes()
+    ensures { ReducedToZeroVanishes }
+{}
+
+/// A combination of generators is zero where they are.
+pub fn combinations_keep_zeros()
+    ensures { CombinationsKeepZeros }
+{}
+
+/// Where `t`, `c` and the chain are zero, a remainder row is zero as long as no earlier lead is.
+pub fn remainder_rows_vanish()
+    ensures { RemainderRowsVanish }
+{}
+
+/// Remainders have less degree than the divisor.
+pub fn remainders_have_less_degree()
+    ensures { RemaindersHaveLessDegree }
+{}
+
+/// Divisions don't raise degrees in variables that the divisor doesn't have.
+pub fn divisions_keep_degrees()
+    ensures { DivisionsKeepDegrees }
+{}
+
+/// Nor do reductions.
+pub fn reductions_keep_degrees()
+    ensures { ReductionsKeepDegrees }
+{}
+
+/// What is reduced is its own reduction.
+pub fn reduced_stays_same()
+    ensures { ReducedStaysSame }
+{}
+
+/// Polynomials that reduce nothing can be left out at the end of a triangular set.
+pub fn reduced_by_more()
+    ensures { ReducedByMore }
+{}
+
+/// Remainder rows aren't 0, are reduced, and have falling degrees.
+pub fn remainder_rows_fall()
+    ensures { RemainderRowsFall }
+{}
+
+/// Remainder rows have no other variables than the rows that they are made of.
+pub fn remainder_rows_are_free()
+    ensures { RemainderRowsAreFree }
+{}
+
+/// The reduction of a multiple by a constant is the multiple of the reduction.
+pub fn reductions_of_multiples()
+    ensures { ReductionsOfMultiples }
+{}
+
+/// A polynomial reduces to 0 exactly where its monic form does.
+pub fn monic_reduces_alike()
+    ensures { MonicReducesAlike }
+{}
