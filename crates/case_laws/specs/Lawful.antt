@@ -1,0 +1,29 @@
+-- Lawful inputs, tasks and triangular sets: canonical, in the named variables, with exponents of 16 bits.
+use Rattle.std.specs.Prelude.{ℕ, ◌≤◌, List}
+use Rattle.std.specs.List.{AllByRecursion}
+use Rattle.polynomials.specs.Polynomials.{Polynomial, IsPolynomial}
+use Rattle.polynomials.specs.Views.{degree_in, IsFreeOf}
+use Rattle.zero_sets.specs.ZeroSets.{IsTriangular}
+use Rattle.zero_sets.specs.Tasks.{Task}
+
+-- a canonical polynomial in n variables modulo p, of which only the k least occur, with degrees of at
+-- most 65,535
+pub record IsLawfulPolynomial (p n k : ℕ) (f : Polynomial) : Type 0 where
+  pub canonical : IsPolynomial p n f
+  pub named : (v : ℕ) → k ≤ v → IsFreeOf v f
+  pub small : (v : ℕ) → degree_in v f ≤ 65535
+
+-- each of them is one
+abbrev pub AreLawfulPolynomials : ℕ → ℕ → ℕ → List Polynomial → Type 0
+AreLawfulPolynomials p n k fs = AllByRecursion (IsLawfulPolynomial p n k) fs
+
+-- a triangular set of them
+pub record IsLawfulChain (p n k : ℕ) (chain : List Polynomial) : Type 0 where
+  pub lawful : AreLawfulPolynomials p n k chain
+  pub triangular : IsTriangular chain
+
+-- a task of them, on a triangular set
+pub record IsLawfulTask (p n k : ℕ) (task : Task) : Type 0 where
+  pub chain : IsLawfulChain p n k task.chain
+  pub queue : AreLawfulPolynomials p n k task.queue
+  pub nonzero : AreLawfulPolynomials p n k task.nonzero
