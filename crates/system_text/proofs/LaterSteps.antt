@@ -10,7 +10,8 @@ use Rattle.system_text.specs.Limits.{most_digits, most_power, text_width}
 use Rattle.system_text.specs.Sums.{Setting, Frame, Mode, Reading, AtSum, AtFactor, AfterBase, AtExponent, AfterFactor, times_within, with_last, closed_at, after_factor, after_factor_at, after_base_token, raised, at_exponent, step_in, step}
 use Rattle.system_text.specs.Grammar.{Sum, Bare, Raised, Parenthesis, sum_tokens, term_tokens, factor_tokens, base_tokens, of_one}
 use Rattle.system_text.proofs.PartialTrees.{Adding, TakingAway, before_tokens, factors_tokens, Part, outer_tokens, OuterMeans, Partial, EndsWithBase, EndsWithTerm, EndsWithSum, Means, ReadingMeans, term_from_factor, sum_from_term}
-use Rattle.system_text.proofs.Steps.{ok_after_test, more, at_next, further, factor_means, sum_means}
+use Rattle.system_text.proofs.Passed.{ok_after_test}
+use Rattle.system_text.proofs.Steps.{more, at_next, further, factor_means, sum_means}
 
 -- a parenthesis closes
 closed_tokens : (xs a b c d : List Token) → xs ≡ (a ++ (b ++ (c ++ Open ∷ []))) ++ d → xs ++ Close ∷ [] ≡ a ++ (b ++ (c ++ (Open ∷ ((d ++ Close ∷ []) ++ []))))

@@ -10,8 +10,8 @@ use Rattle.system_text.specs.Lines.{is_text_of, reserved_names, word_first, with
 use Rattle.system_text.specs.Systems.{AreDifferent, SpellsOrder}
 use Rattle.system_text.proofs.TokenTexts.{IsWellSpelled, AllByRecursion-append, AllByRecursion-parts, line_is_well_spelled}
 use Rattle.system_text.proofs.Lookups.{AreDifferent-push, different_from_front}
-use Rattle.system_text.proofs.Steps.{ok_after_test}
-use Rattle.system_text.proofs.PrimeLines.{both_read, word_is_spelled, word_is_read}
+use Rattle.system_text.proofs.Passed.{ok_after_test, both_read}
+use Rattle.system_text.proofs.HeadWords.{word_is_spelled, word_is_read}
 
 -- at most n different names, none of them reserved
 record MayStand (n : ℕ) (names : List (List ℕ)) : Type 0 where

@@ -1,58 +1,21 @@
 -- The prime line is read exactly where it spells a prime that is offered.
-use Rattle.std.proofs.Common.{◌≡◌, ◌⊎◌, ℕ, ◌+◌, ◌^◌, ◌<◌, ◌≤◌, Bool, true, false, cond, ltb, List, [], ◌∷◌, length, Result, Ok, Err, refl, ap, ◌∙◌, subst, inl, inr, arith}
+use Rattle.std.proofs.Common.{◌≡◌, ◌⊎◌, ℕ, ◌+◌, ◌^◌, ◌<◌, ◌≤◌, Bool, true, false, cond, ltb, List, [], ◌∷◌, length, Ok, Err, refl, ap, ◌∙◌, subst, inl, inr, arith}
 use Rattle.std.proofs.Math.Nat.{pow-le-pow_right}
 use Rattle.std.proofs.lemmas.Bool.{le-ltb, cases_lt}
-use Rattle.std.proofs.lemmas.Slice.Eq.{bytes_eq-Decides}
 use Rattle.std.specs.Prelude.{Contains, codes}
 use Rattle.std.specs.List.{AllByRecursion}
-use Rattle.std.specs.Str.{bytes_eq}
 use Rattle.std.specs.Str.Parse.{digits_value}
 use Rattle.polynomials.specs.Primes.{field_primes}
 use Rattle.system_text.specs.Tokens.{Token, Placed, Name, Number, tokens, unplaced}
-use Rattle.system_text.specs.Faults.{Fault, fault, misplaced}
+use Rattle.system_text.specs.Faults.{fault}
 use Rattle.system_text.specs.Limits.{most_digits}
-use Rattle.system_text.specs.Lines.{is_one_of, at_end, after_word, word_first, prime_number, prime_from, and_then_read, read_prime}
+use Rattle.system_text.specs.Lines.{is_one_of, at_end, word_first, prime_number, prime_from, and_then_read, read_prime}
 use Rattle.system_text.specs.Systems.{SpellsPrime}
 use Rattle.system_text.proofs.CharacterLemmas.{IsFull}
 use Rattle.system_text.proofs.TokenTexts.{IsWellSpelled, line_is_well_spelled}
 use Rattle.system_text.proofs.Lookups.{contains_from_test, test_from_contains, field_primes_small}
-use Rattle.system_text.proofs.Steps.{ok_after_test}
-
--- what passes a test, and what is then known
-pub ok_from_test : {A : Type 0} (b : Bool) (x : A) (d : Fault) (y : A) → cond b (Ok x) (Err d) ≡ Ok y → (b ≡ true) × (x ≡ y)
-ok_from_test true x d y e = (refl, cc)
-ok_from_test false x d y e = absurd cc
-
--- where both readings have a result
-pub record BothRead {A B : Type 0} (a : Result A Fault) (f : A → Result B Fault) (y : B) : Type 0 where
-  pub between : A
-  pub first : a ≡ Ok between
-  pub second : f between ≡ Ok y
-
-pub both_read : {A B : Type 0} (a : Result A Fault) (f : A → Result B Fault) (y : B) → and_then_read a f ≡ Ok y → BothRead a f y
-both_read (Ok x) f y e = record { between = x; first = refl; second = e }
-both_read (Err d) f y e = absurd cc
-
--- the word first, as it is read
-pub word_is_spelled : (number end : ℕ) (word : List ℕ) (ts us : List Placed) → word_first number word end ts ≡ Ok us → unplaced ts ≡ Name word ∷ unplaced us
-word_is_spelled number end word [] us e = absurd cc
-word_is_spelled number end word (t ∷ ts) us e = by_token t.token refl e
-  where
-    by_token : (x : Token) → t.token ≡ x → after_word number word t x ts ≡ Ok us → unplaced (t ∷ ts) ≡ Name word ∷ unplaced us
-    by_token (Name x) d k =
-        let passed = ok_from_test (bytes_eq x word) ts (misplaced number t) us k in
-        let same : x ≡ word = (bytes_eq-Decides x word).0 passed.0 in
-        rw (d, same, passed.1) refl
-    by_token Token.Plus d k = absurd cc
-    by_token _ d k = absurd cc
-
--- and back
-pub word_is_read : (number end : ℕ) (word : List ℕ) (ts : List Placed) (xs : List Token) → unplaced ts ≡ Name word ∷ xs → (us : List Placed) × (word_first number word end ts ≡ Ok us) × (unplaced us ≡ xs)
-word_is_read number end word [] xs e = absurd cc
-word_is_read number end word (t ∷ ts) xs e =
-    let token : t.token ≡ Name word = cc in
-    let same : bytes_eq word word ≡ true = (bytes_eq-Decides word word).1 refl in
-    (ts, rw (token, same) refl, cc)
+use Rattle.system_text.proofs.Passed.{ok_after_test, both_read}
+use Rattle.system_text.proofs.HeadWords.{word_is_spelled, word_is_read}
 
 -- the number of the prime line, as it is read
 record IsPrimeNumber (xs : List Token) (p : ℕ) : Type 0 where

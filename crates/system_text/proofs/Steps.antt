@@ -1,5 +1,5 @@
 -- Each token that is read keeps what the reading means.
-use Rattle.std.proofs.Common.{◌≡◌, ℕ, ◌%◌, Bool, true, false, cond, ltb, leb, List, [], ◌∷◌, ◌++◌, length, Option, Some, None, Result, Ok, Err, refl, sym, ap, ◌∙◌, subst, append_assoc, append-nil}
+use Rattle.std.proofs.Common.{◌≡◌, ℕ, ◌%◌, true, ltb, leb, List, [], ◌∷◌, ◌++◌, length, Option, Some, None, Result, Ok, refl, sym, ap, ◌∙◌, subst, append_assoc, append-nil}
 use Rattle.std.proofs.lemmas.Bool.{ltb-false, leb-false}
 use Rattle.std.specs.Str.Parse.{digits_value}
 use Rattle.polynomials.specs.Polynomials.{Polynomial, constant_of, variable_power}
@@ -9,11 +9,7 @@ use Rattle.system_text.specs.Limits.{most_digits, most_exponent, most_depth}
 use Rattle.system_text.specs.Sums.{Setting, Frame, Reading, AtSum, AtFactor, AfterBase, empty_frame, place_of_name, after_base, variable_at, number_base, opened_at, at_factor, at_sum}
 use Rattle.system_text.specs.Grammar.{Base, Numeral, Variable, variable_of, base_tokens, base_value, most_of}
 use Rattle.system_text.proofs.PartialTrees.{Beginning, Negative, before_tokens, factors_tokens, outer_tokens, Partial, EndsOpen, ReadingMeans}
-
--- what passes a test
-pub ok_after_test : {A : Type 0} (b : Bool) (d : Fault) (x : Result A Fault) (y : A) → cond b (Err d) x ≡ Ok y → (b ≡ false) × (x ≡ Ok y)
-ok_after_test true d x y e = absurd cc
-ok_after_test false d x y e = (refl, e)
+use Rattle.system_text.proofs.Passed.{ok_after_test}
 
 -- one more token
 pub more : (xs as' bs last : List Token) (x : Token) → xs ≡ as' ++ (bs ++ last) → xs ++ x ∷ [] ≡ as' ++ (bs ++ (last ++ x ∷ []))

@@ -11,7 +11,8 @@ use Rattle.system_text.specs.Lines.{is_skipped, read_prime, read_order, TextSyst
 use Rattle.system_text.specs.Systems.{HasTokens, SpellSums, SpellsPrime, SpellsOrder}
 use Rattle.system_text.proofs.ReadSums.{spelled_sums_are_read}
 use Rattle.system_text.proofs.TokenTexts.{IsText, line_of_characters}
-use Rattle.system_text.proofs.PrimeLines.{both_read, prime_line_is_read, prime_line_is_spelled}
+use Rattle.system_text.proofs.Passed.{both_read}
+use Rattle.system_text.proofs.PrimeLines.{prime_line_is_read, prime_line_is_spelled}
 use Rattle.system_text.proofs.OrderLines.{order_line_is_read, order_line_is_spelled}
 use Rattle.system_text.proofs.PlainTexts.{HasCharacters, names_are_text, sum_is_text}
 
