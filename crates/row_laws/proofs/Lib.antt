@@ -11,3 +11,4 @@ pub mod ReducedRows
 pub mod FallingRows
 pub mod ScaledSteps
 pub mod ScaledReductions
+pub mod Members
