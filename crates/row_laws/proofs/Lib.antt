@@ -1,3 +1,4 @@
+mod Examples
 pub mod Lifts
 pub mod TablePoints
 pub mod Starts
