@@ -4,3 +4,4 @@ pub mod GeneratorLists
 pub mod CofactorRows
 pub mod LeadPoints
 pub mod ReducedCofactors
+pub mod ZeroRows

@@ -90,10 +90,10 @@ module _ (p n w v : ℕ) (c t : Polynomial) (chain : List Polynomial) (z : Row P
   abbrev a : Polynomial
   a = first_cofactor (list_operations p n) z
 
-  start_rows : StartRemainderRows v (first_entries (rows_of_chain p n chain)) t c
+  pub start_rows : StartRemainderRows v (first_entries (rows_of_chain p n chain)) t c
   start_rows = subst (λ fs. StartRemainderRows v fs t c) (sym (first_entries-unit_rows p n 2 chain)) ends.start
 
-  are_rows : ArePolynomialRows p n (row_of_t n t chain ∷ row_of_c n c chain ∷ rows_of_chain p n chain)
+  pub are_rows : ArePolynomialRows p n (row_of_t n t chain ∷ row_of_c n c chain ∷ rows_of_chain p n chain)
   are_rows = (subst (IsPolynomialRow p n) (down-second p n ends.prime w v c t chain ends.canonical ends.start) (down_canonical p n ends.prime.many (second p n ends.prime w v c t chain ends.canonical ends.start)), (subst (IsPolynomialRow p n) (down-first p n ends.prime w v c t chain ends.canonical ends.start) (down_canonical p n ends.prime.many (first p n ends.prime w v c t chain ends.canonical ends.start)), subst (ArePolynomialRows p n) (down-chain_units p n ends.prime w v c t chain ends.canonical ends.start) (down_all_canonical p n ends.prime.many (chain_units p n ends.prime w v c t chain ends.canonical ends.start))))
 
   -- the cofactor has less degree than t

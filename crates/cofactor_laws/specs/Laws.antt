@@ -1,15 +1,17 @@
 -- The cofactor of c along the remainder rows of t and c: its degree, its lead, and both at a point.
-use Rattle.std.specs.Prelude.{◌≡◌, ◌≢◌, ℕ, ◌+◌, List, [], ◌∷◌, ◌++◌, map, Any, Some, None}
+use Rattle.std.specs.Prelude.{◌≡◌, ◌≢◌, ◌⊎◌, ℕ, ◌+◌, List, [], ◌∷◌, ◌++◌, map, Any, Some, None}
 use Rattle.polynomials.specs.Primes.{IsPrime}
 use Rattle.polynomials.specs.Polynomials.{Polynomial, ArePolynomials}
 use Rattle.polynomials.specs.Views.{degree_in, lead_in, main_var, initial_of}
 use Rattle.zero_sets.specs.Domains.{Tables, IsFiniteDomain, IsPoint, value_at}
-use Rattle.zero_sets.specs.ZeroSets.{InQuasiComponent, AreNonZero, IsTriangular}
+use Rattle.zero_sets.specs.ZeroSets.{InZeroSet, InQuasiComponent, AreNonZero, IsTriangular}
 use Rattle.zero_sets.specs.Certificates.{IsFreeOfMain}
+use Rattle.division_rules.specs.Chains.{IfRow}
 use Rattle.division_rules.specs.Lists.{list_operations}
 use Rattle.division_rules.specs.Rows.{Row}
 use Rattle.division_rules.specs.Turns.{last_row}
 use Rattle.division_rules.specs.Cofactors.{first_cofactor, AreCofactorSteps}
+use Rattle.row_laws.specs.Combinations.{IsRowOver, AreRowsOver}
 use Rattle.row_laws.specs.Words.{reduction_of, StartRemainderRows}
 use Rattle.cofactor_laws.specs.RowsWithCofactors.{row_of_c, row_of_t, rows_of_chain, rows_with_cofactors, leads_from_c, EndWithZeroRow}
 
@@ -17,6 +19,10 @@ use Rattle.cofactor_laws.specs.RowsWithCofactors.{row_of_c, row_of_t, rows_of_ch
 -- up to the divisor, minus a product of initials of the chain and of three leads
 abbrev pub CofactorsGrowByFalls : Type 0
 CofactorsGrowByFalls = (p n w v : ℕ) (c t : Polynomial) (chain : List Polynomial) → IsPrime p → ArePolynomials p n (c ∷ t ∷ chain) → StartRemainderRows v chain t c → AreCofactorSteps (list_operations p n) w v (rows_of_chain p n chain) (degree_in v t) None (row_of_t n t chain) (row_of_c n c chain) (rows_with_cofactors p n w v c t chain).later (rows_with_cofactors p n w v c t chain).last
+
+-- each row with cofactors, the zero row too, is the combination of its cofactors with c, t and the chain
+abbrev pub RowsWithCofactorsAreCombinations : Type 0
+RowsWithCofactorsAreCombinations = (p n w v : ℕ) (c t : Polynomial) (chain : List Polynomial) → IsPrime p → ArePolynomials p n (c ∷ t ∷ chain) → StartRemainderRows v chain t c → AreRowsOver p n (c ∷ t ∷ chain) (rows_with_cofactors p n w v c t chain).later × IfRow (IsRowOver p n (c ∷ t ∷ chain)) (rows_with_cofactors p n w v c t chain).last
 
 -- the degrees of the zero row's cofactor of c and of the row before it have the sum that of t
 abbrev pub LastCofactorHasDegree : Type 0
@@ -39,3 +45,7 @@ pub record StandsInTriangular (p n v : ℕ) (c t : Polynomial) (chain more : Lis
 -- c reduces to 0 by the chain, t and what follows them, the lead of c or of a later row is zero
 abbrev pub ReducedCofactorShowsLead : Type 0
 ReducedCofactorShowsLead = (p n w v : ℕ) (r : Tables) (xs : List ℕ) (c t : Polynomial) (chain more : List Polynomial) (z : Row Polynomial) → EndWithZeroRow p n w v c t chain z → StandsInTriangular p n v c t chain more → IsFiniteDomain p r → IsPoint r xs → InQuasiComponent r xs chain → value_at r xs (lead_in v t) ≢ r.nil → reduction_of p n (chain ++ t ∷ more) (first_cofactor (list_operations p n) z) ≡ [] → Any (λ l. value_at r xs l ≡ r.nil) (leads_from_c p n w v c t chain)
+
+-- where t and the chain are zero, the zero row's cofactor of c is zero, or c is
+abbrev pub ZeroRowSplitsZeros : Type 0
+ZeroRowSplitsZeros = (p n w v : ℕ) (r : Tables) (xs : List ℕ) (c t : Polynomial) (chain : List Polynomial) (z : Row Polynomial) → EndWithZeroRow p n w v c t chain z → IsFiniteDomain p r → IsPoint r xs → InZeroSet r xs (t ∷ chain) → (value_at r xs (first_cofactor (list_operations p n) z) ≡ r.nil) ⊎ (value_at r xs c ≡ r.nil)

@@ -1,4 +1,9 @@
-ghost use Rattle.cofactor_laws.specs.Laws.{CofactorsGrowByFalls, LastCofactorHasDegree, CofactorLeadIsZeroByLeads, ReducedCofactorShowsLead};
+ghost use Rattle.cofactor_laws.specs.Laws.{RowsWithCofactorsAreCombinations, CofactorsGrowByFalls, LastCofactorHasDegree, CofactorLeadIsZeroByLeads, ReducedCofactorShowsLead, ZeroRowSplitsZeros};
+
+/// Remainder rows with cofactors are combinations of the polynomials that they are made of.
+pub fn rows_with_cofactors_are_combinations()
+    ensures { RowsWithCofactorsAreCombinations }
+{}
 
 /// The degree and the lead of the first cofactor, from remainder row to remainder row.
 pub fn cofactors_grow_by_falls()
@@ -18,4 +23,9 @@ pub fn cofactor_lead_is_zero_by_leads()
 /// Where the zero row's first cofactor reduces to 0, the lead of a row vanishes.
 pub fn reduced_cofactor_shows_lead()
     ensures { ReducedCofactorShowsLead }
+{}
+
+/// Where the other generators vanish, the zero row's first cofactor does, or the first generator.
+pub fn zero_row_splits_zeros()
+    ensures { ZeroRowSplitsZeros }
 {}

@@ -1,3 +1,4 @@
+mod Examples
 pub mod Lifts
 pub mod TablePoints
 pub mod Starts
@@ -11,3 +12,4 @@ pub mod ReducedRows
 pub mod FallingRows
 pub mod ScaledSteps
 pub mod ScaledReductions
+pub mod Members

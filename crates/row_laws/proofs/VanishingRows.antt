@@ -43,7 +43,7 @@ module _ (p n : ℕ) (prime : IsPrime p) (r : Tables) (domain : IsFiniteDomain p
   vanish_at v H g (f ∷ later) vanish known (suc i) h there leads_are = vanish_at v (H × NotZero P E (lead (canonical_operations p n prime.many) v g.first)) f later vanish.1 (known, table_not_zero p n prime r domain xs point (lead (canonical_operations p n prime.many) v g.first) leads_are.0) i h there leads_are.1
 
   -- the generators are zero
-  generators_zero : (gs : List Polynomial) (are : ArePolynomials p n gs) → InZeroSet r xs gs → EachOf (IsZero P E) (up_all p n prime.many gs are)
+  pub generators_zero : (gs : List Polynomial) (are : ArePolynomials p n gs) → InZeroSet r xs gs → EachOf (IsZero P E) (up_all p n prime.many gs are)
   generators_zero [] are zeros = tt
   generators_zero (g ∷ gs) are zeros = (table_zero p n prime r domain xs point (g, are.0) zeros.0, generators_zero gs are.1 zeros.1)
 

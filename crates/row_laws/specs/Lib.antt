@@ -4,3 +4,4 @@ pub mod Values
 pub mod Vanishing
 pub mod Degrees
 pub mod Scaling
+pub mod Members

@@ -1,6 +1,7 @@
 ghost use Rattle.row_laws.specs.Combinations.{CombinationsAreKept};
 ghost use Rattle.row_laws.specs.Values.{DivisionsMultiplyValues, ReductionsMultiplyValues, ReductionsKeepZeros, ReductionsHaveSameZeros, ReducedToZeroVanishes, CombinationsKeepZeros};
 ghost use Rattle.row_laws.specs.Degrees.{RemaindersHaveLessDegree, DivisionsKeepDegrees, ReductionsKeepDegrees, ReducedStaysSame, ReducedByMore, RemainderRowsFall, RemainderRowsAreFree};
+ghost use Rattle.row_laws.specs.Members.{MembersArePlaced, MembersStartRemainderRows, PointsAtMembers};
 ghost use Rattle.row_laws.specs.Scaling.{ReductionsOfMultiples, MonicReducesAlike};
 ghost use Rattle.row_laws.specs.Vanishing.{RemainderRowsVanish};
 
@@ -87,4 +88,19 @@ pub fn reductions_of_multiples()
 /// A polynomial reduces to 0 exactly where its monic form does.
 pub fn monic_reduces_alike()
     ensures { MonicReducesAlike }
+{}
+
+/// A member of a triangular set stands behind those with lesser main variables.
+pub fn members_are_placed()
+    ensures { MembersArePlaced }
+{}
+
+/// Remainder rows start with a member and what is reduced by the set.
+pub fn members_start_remainder_rows()
+    ensures { MembersStartRemainderRows }
+{}
+
+/// A point of a quasi-component, at a member and below it.
+pub fn points_at_members()
+    ensures { PointsAtMembers }
 {}

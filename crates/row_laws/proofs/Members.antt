@@ -1,0 +1,140 @@
+-- Members of triangular sets, and those below them.
+use Rattle.std.proofs.Common.{◌≡◌, ◌≢◌, ℕ, suc, ◌<◌, ◌≤◌, Bool, true, false, List, [], ◌∷◌, ◌++◌, map, Some, refl, sym, ap, ◌∙◌, subst, arith}
+use Rattle.std.proofs.lemmas.Bool.{eqb-true, lt-ltb, le-ltb}
+use Rattle.polynomials.specs.Polynomials.{Polynomial}
+use Rattle.polynomials.specs.Views.{main_var, lead_in_main, initial_of}
+use Rattle.zero_sets.specs.Domains.{Tables, value_at}
+use Rattle.zero_sets.specs.ZeroSets.{InZeroSet, AreNonZero, IsTriangularFrom, is_variable, member_in, is_variable_below, members_below}
+use Rattle.zero_sets.proofs.CertificateLemmas.{InZeroSet-members_below}
+use Rattle.division_rules.specs.Rows.{plain}
+use Rattle.division_rules.specs.Triangular.{HasLessDegree}
+use Rattle.row_laws.specs.Words.{AreBelow, IsReducedBy}
+use Rattle.row_laws.specs.Members.{IsMember, MembersArePlaced, MembersStartRemainderRows, PointsAtMembers}
+
+-- what is there is the same
+same_there : {X : Type 0} (x y : X) → Some x ≡ Some y → x ≡ y
+same_there x y e = cc
+
+-- main variables from a greater one on are such from a lesser one on
+pub triangular_from_less : (u v : ℕ) (chain : List Polynomial) → u ≤ v → IsTriangularFrom v chain → IsTriangularFrom u chain
+triangular_from_less u v [] less h = tt
+triangular_from_less u v (t ∷ chain) less (m, main, up_to, later) = (m, main, omega (arith, less, up_to), later)
+
+-- none of them is below v
+none_below : (v u : ℕ) (chain : List Polynomial) → v ≤ u → IsTriangularFrom u chain → members_below v chain ≡ []
+none_below v u [] less h = refl
+none_below v u (t ∷ chain) less (m, main, up_to, later) = ap (λ b. elim b [ true ↦ t ∷ members_below v chain | false ↦ members_below v chain ]) (ap (is_variable_below v) main ∙ le-ltb m v (omega (arith, less, up_to))) ∙ none_below v (suc m) chain (omega (arith, less, up_to)) later
+
+-- the member for v has at least the first main variable
+member_from : (v u : ℕ) (chain : List Polynomial) (t : Polynomial) → IsTriangularFrom u chain → member_in v chain ≡ Some t → u ≤ v
+member_from v u [] t h there = cc
+member_from v u (s ∷ chain) t (m, main, up_to, later) there = go (is_variable v (main_var s)) refl there (member_from v (suc m) chain t later)
+  where
+    go : (b : Bool) → is_variable v (main_var s) ≡ b → elim b [ true ↦ Some s | false ↦ member_in v chain ] ≡ Some t → (member_in v chain ≡ Some t → suc m ≤ v) → u ≤ v
+    go true e found further = let same = eqb-true m v (sym (ap (is_variable v) main) ∙ e) in omega (arith, same, up_to)
+    go false e found further = let above = further found in omega (arith, above, up_to)
+
+-- the member is placed behind those below it
+placed : (v u : ℕ) (chain : List Polynomial) (t : Polynomial) → IsTriangularFrom u chain → member_in v chain ≡ Some t → IsMember v chain t
+placed v u [] t h there = cc
+placed v u (s ∷ chain) t (m, main, up_to, later) there = go (is_variable v (main_var s)) refl there (placed v (suc m) chain t later)
+  where
+    go : (b : Bool) → is_variable v (main_var s) ≡ b → elim b [ true ↦ Some s | false ↦ member_in v chain ] ≡ Some t → (member_in v chain ≡ Some t → IsMember v chain t) → IsMember v (s ∷ chain) t
+    go true e found further = record {
+      main = ap main_var (sym (same_there s t found)) ∙ main ∙ ap Some same;
+      more = chain;
+      parts = ap (λ x. x ∷ chain) (same_there s t found) ∙ ap (λ xs. xs ++ t ∷ chain) (sym (ap (λ b. elim b [ true ↦ s ∷ members_below v chain | false ↦ members_below v chain ]) (ap (is_variable_below v) main ∙ le-ltb m v (omega (arith, same))) ∙ none_below v (suc m) chain (omega (arith, same)) later));
+    }
+      where
+        same : m ≡ v
+        same = eqb-true m v (sym (ap (is_variable v) main) ∙ e)
+    go false e found further = record {
+      main = rest.main;
+      more = rest.more;
+      parts = ap (λ xs. s ∷ xs) rest.parts ∙ ap (λ b. elim b [ true ↦ s ∷ members_below v chain | false ↦ members_below v chain ] ++ t ∷ rest.more) (sym (ap (is_variable_below v) main ∙ lt-ltb m v less));
+    }
+      where
+        rest : IsMember v chain t
+        rest = further found
+
+        less : m < v
+        less = let above = member_from v (suc m) chain t later found in omega (arith, above)
+
+module _ (v : ℕ) where
+  -- those below v are
+  pub members_are_below : (chain : List Polynomial) → AreBelow v (members_below v chain)
+  members_are_below [] = tt
+  members_are_below (t ∷ chain) = go (is_variable_below v (main_var t)) refl (members_are_below chain)
+    where
+      go : (b : Bool) → is_variable_below v (main_var t) ≡ b → AreBelow v (members_below v chain) → AreBelow v (elim b [ true ↦ t ∷ members_below v chain | false ↦ members_below v chain ])
+      go true e later = (e, later)
+      go false e later = later
+
+  -- and triangular
+  pub members_triangular : (u : ℕ) (chain : List Polynomial) → IsTriangularFrom u chain → IsTriangularFrom u (members_below v chain)
+  members_triangular u [] h = tt
+  members_triangular u (t ∷ chain) (m, main, up_to, later) = go (is_variable_below v (main_var t)) (members_triangular (suc m) chain later)
+    where
+      go : (b : Bool) → IsTriangularFrom (suc m) (members_below v chain) → IsTriangularFrom u (elim b [ true ↦ t ∷ members_below v chain | false ↦ members_below v chain ])
+      go true rest = (m, main, up_to, rest)
+      go false rest = triangular_from_less u (suc m) (members_below v chain) (omega (arith, up_to)) rest
+
+  -- what is reduced by all is reduced by those below v
+  pub members_reduce : (c : Polynomial) (chain : List Polynomial) → IsReducedBy c chain → IsReducedBy c (members_below v chain)
+  members_reduce c [] h = tt
+  members_reduce c (t ∷ chain) h = go (is_variable_below v (main_var t)) (members_reduce c chain h.1)
+    where
+      go : (b : Bool) → IsReducedBy c (members_below v chain) → IsReducedBy c (elim b [ true ↦ t ∷ members_below v chain | false ↦ members_below v chain ])
+      go true later = (h.0, later)
+      go false later = later
+
+  -- and by the member for v
+  member_reduces : (c : Polynomial) (chain : List Polynomial) (t : Polynomial) → IsReducedBy c chain → member_in v chain ≡ Some t → HasLessDegree c (plain t)
+  member_reduces c [] t h there = cc
+  member_reduces c (s ∷ chain) t h there = go (is_variable v (main_var s)) there (member_reduces c chain t h.1)
+    where
+      go : (b : Bool) → elim b [ true ↦ Some s | false ↦ member_in v chain ] ≡ Some t → (member_in v chain ≡ Some t → HasLessDegree c (plain t)) → HasLessDegree c (plain t)
+      go true found further = subst (λ x. HasLessDegree c (plain x)) (same_there s t found) h.0
+      go false found further = further found
+
+  module _ (r : Tables) (xs : List ℕ) where
+    -- initials that aren't zero
+    pub members_initials : (chain : List Polynomial) → AreNonZero r xs (map initial_of chain) → AreNonZero r xs (map initial_of (members_below v chain))
+    members_initials [] h = tt
+    members_initials (t ∷ chain) h = go (is_variable_below v (main_var t)) (members_initials chain h.1)
+      where
+        go : (b : Bool) → AreNonZero r xs (map initial_of (members_below v chain)) → AreNonZero r xs (map initial_of (elim b [ true ↦ t ∷ members_below v chain | false ↦ members_below v chain ]))
+        go true later = (h.0, later)
+        go false later = later
+
+    -- the member is zero, and its initial isn't
+    member_at : (chain : List Polynomial) (t : Polynomial) → InZeroSet r xs chain → AreNonZero r xs (map initial_of chain) → member_in v chain ≡ Some t → (value_at r xs t ≡ r.nil) × (value_at r xs (initial_of t) ≢ r.nil)
+    member_at [] t zeros others there = cc
+    member_at (s ∷ chain) t zeros others there = go (is_variable v (main_var s)) there (member_at chain t zeros.1 others.1)
+      where
+        go : (b : Bool) → elim b [ true ↦ Some s | false ↦ member_in v chain ] ≡ Some t → (member_in v chain ≡ Some t → (value_at r xs t ≡ r.nil) × (value_at r xs (initial_of t) ≢ r.nil)) → (value_at r xs t ≡ r.nil) × (value_at r xs (initial_of t) ≢ r.nil)
+        go true found further = subst (λ x. (value_at r xs x ≡ r.nil) × (value_at r xs (initial_of x) ≢ r.nil)) (same_there s t found) (zeros.0, others.0)
+        go false found further = further found
+
+-- the laws
+pub members_are_placed : MembersArePlaced
+members_are_placed v chain t triangular there = placed v 0 chain t triangular there
+
+pub members_start_remainder_rows : MembersStartRemainderRows
+members_start_remainder_rows v chain t c triangular there reduced occurs = record {
+  triangular = members_triangular v 0 chain triangular;
+  below = members_are_below v chain;
+  reduced = members_reduce v c chain reduced;
+  occurs = occurs;
+  falls = member_reduces v c chain t reduced there v (placed v 0 chain t triangular there).main;
+}
+
+pub points_at_members : PointsAtMembers
+points_at_members v r xs chain t triangular there inside = record {
+  below = (InZeroSet-members_below r xs v chain inside.0, members_initials v r xs chain inside.1);
+  zero = at_t.0;
+  lead = subst (λ o. value_at r xs (lead_in_main t o) ≢ r.nil) (placed v 0 chain t triangular there).main at_t.1;
+}
+  where
+    at_t : (value_at r xs t ≡ r.nil) × (value_at r xs (initial_of t) ≢ r.nil)
+    at_t = member_at v r xs chain t inside.0 inside.1 there
