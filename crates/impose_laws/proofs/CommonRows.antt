@@ -13,9 +13,9 @@ use Rattle.division_rules.specs.Chains.{EachRow}
 use Rattle.division_rules.specs.RemainderRows.{leads}
 use Rattle.division_rules.specs.Turns.{last_row, DegreesFall}
 use Rattle.division_rules.specs.PolynomialRows.{IsPolynomialRow}
-use Rattle.impose_laws.proofs.Lists.{each_implied}
-use Rattle.impose_laws.proofs.RowStarts.{HasMainBelow, IsStart}
-use Rattle.impose_laws.proofs.ChainParts.{canonical_each}
+use Rattle.impose_rules.proofs.Lists.{each_implied}
+use Rattle.impose_laws.proofs.RowStarts.{IsStart}
+use Rattle.impose_rules.proofs.ChainParts.{HasMainBelow, canonical_each}
 use Rattle.impose_laws.proofs.RowShapes.{rows, rows_canonical, rows_nonzero, rows_degrees, rows_without}
 
 -- what holds of the first and each later row holds of the last

@@ -32,7 +32,8 @@ use Rattle.impose_laws.proofs.RowPoints.{reduction_zero, rows_end}
 use Rattle.impose_laws.proofs.StrippedPoints.{stripped_zero, stripped_lead}
 use Rattle.impose_laws.proofs.Stripped.{main_var-stripped}
 use Rattle.impose_laws.proofs.KnownNonzero.{constant_nonzero, known_nonzero, with_nonzero_points, with_all_points}
-use Rattle.impose_laws.proofs.ChainParts.{member_of_chain, each_with_member, IsRegularZero, each_regular, regular_each}
+use Rattle.impose_rules.proofs.ChainParts.{member_of_chain, each_with_member}
+use Rattle.impose_laws.proofs.RegularZeros.{IsRegularZero, each_regular, regular_each}
 use Rattle.impose_laws.proofs.Heads.{IsHead, reduced_by, head_is, IsPolynomial-reduced_by, start_of}
 use Rattle.impose_laws.proofs.CommonRows.{occurring_nonzero, row_leads, leads_canonical, leads_nonzero, leads_free, later_rows, last_polynomial, last_canonical, last_main}
 use Rattle.impose_laws.proofs.ChildrenCases.{by_children}

@@ -1,11 +1,10 @@
 -- The words of the laws, tried on the children of x y modulo 5.
-use Rattle.std.proofs.Common.{◌≡◌, true, false, [], ◌∷◌, Some, inl, inr, refl, lit≤}
+use Rattle.std.proofs.Common.{◌≡◌, [], ◌∷◌, Some, inl, inr, refl, lit≤}
 use Rattle.polynomials.specs.Polynomials.{Polynomial, term}
 use Rattle.zero_sets.specs.Tasks.{Task, InTask}
 use Rattle.zero_sets.proofs.PrimeFields.{residue_tables}
 use Rattle.impose_rules.specs.Impose.{impose_children}
 use Rattle.impose_laws.specs.TaskForms.{IsTaskOver, IsTaskFreeOf, InSomeTask}
-use Rattle.impose_laws.specs.PartLaws.{is_unknown}
 
 abbrev x : Polynomial
 x = term (1 ∷ 0 ∷ []) 1 ∷ []
@@ -44,10 +43,3 @@ in_a_child = inr (inl ((tt, tt), (refl, (refl, tt)), tt))
 not_in_the_first : InSomeTask (residue_tables 5) (0 ∷ 3 ∷ []) (first ∷ []) → ⊥
 not_in_the_first (inl h) = h.2.0 refl
 not_in_the_first (inr h) = h
-
--- of the leads x and y, the second is unknown, and isn't where it is known from the start
-second_is_unknown : is_unknown 5 [] (x ∷ y ∷ []) 2 ≡ true
-second_is_unknown = refl
-
-second_is_known : is_unknown 5 (y ∷ []) (x ∷ y ∷ []) 2 ≡ false
-second_is_known = refl

@@ -16,7 +16,7 @@ use Rattle.impose_rules.specs.Impose.{child_initial, child_lead, child_common}
 use Rattle.impose_laws.specs.Laws.{ChildrenAreFew}
 use Rattle.impose_laws.proofs.RowStarts.{IsStart}
 use Rattle.impose_laws.proofs.RowShapes.{rows, rows_degrees}
-use Rattle.impose_laws.proofs.ChainParts.{member_of_chain}
+use Rattle.impose_rules.proofs.ChainParts.{member_of_chain}
 use Rattle.impose_laws.proofs.Heads.{IsHead, start_of}
 use Rattle.impose_laws.proofs.ChildrenCases.{by_rows, by_children}
 use Rattle.impose_laws.proofs.CommonRows.{row_leads, later_rows, last_polynomial}

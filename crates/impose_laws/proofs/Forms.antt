@@ -18,12 +18,12 @@ use Rattle.impose_rules.specs.Factors.{stripped}
 use Rattle.impose_rules.specs.Leads.{with_all_nonzero}
 use Rattle.impose_rules.specs.Chains.{with_member}
 use Rattle.impose_laws.specs.TaskForms.{AreFreeOf, IsTaskFreeOf, AreMonic, KeepsForm}
-use Rattle.impose_laws.proofs.Lists.{each_appended, each_implied}
+use Rattle.impose_rules.proofs.Lists.{each_appended, each_implied}
 use Rattle.impose_laws.proofs.MonicForms.{degree_in-monic}
 use Rattle.impose_laws.proofs.Stripped.{IsPolynomial-stripped, stripped_free, main_var-stripped}
 use Rattle.impose_laws.proofs.NonzeroForms.{apart_with}
 use Rattle.impose_laws.proofs.CommonRows.{lead_in_keeps_free}
-use Rattle.impose_laws.proofs.ChainParts.{canonical_each, with_member_triangular, each_with_member}
+use Rattle.impose_rules.proofs.ChainParts.{canonical_each, with_member_triangular, each_with_member}
 
 -- a canonical polynomial without variables that don't occur in the task
 pub record IsFrom (p n : ℕ) (task : Task) (f : Polynomial) : Type 0 where

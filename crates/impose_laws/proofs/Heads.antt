@@ -17,12 +17,12 @@ use Rattle.division_rules.proofs.TriangularReductions.{reduction_is_reduced}
 use Rattle.division_rules.proofs.Up.{plains_canonical}
 use Rattle.impose_rules.specs.Factors.{stripped}
 use Rattle.impose_rules.specs.Impose.{reduced_head}
-use Rattle.impose_laws.proofs.Lists.{each_implied, each_both}
+use Rattle.impose_rules.proofs.Lists.{each_implied, each_both}
 use Rattle.impose_laws.proofs.Options.{then_some}
 use Rattle.impose_laws.proofs.RowStarts.{IsStart, triangular_rows}
 use Rattle.impose_laws.proofs.RowShapes.{reduction_without}
 use Rattle.impose_laws.proofs.Stripped.{IsPolynomial-stripped, degree_in-stripped, stripped_free}
-use Rattle.impose_laws.proofs.ChainParts.{each_canonical, canonical_each, member_of_chain, each_below, below_are_below, below_triangular}
+use Rattle.impose_rules.proofs.ChainParts.{each_canonical, canonical_each, member_of_chain, each_below, below_are_below, below_triangular}
 
 -- a canonical polynomial that is reduced by the chain
 pub record IsHead (p n : ℕ) (chain : List Polynomial) (r : Polynomial) : Type 0 where

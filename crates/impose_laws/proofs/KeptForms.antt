@@ -13,10 +13,10 @@ use Rattle.impose_rules.specs.Leads.{with_all_nonzero, lead_cases}
 use Rattle.impose_rules.specs.Impose.{child_extended, child_initial, child_lead, child_common, impose_children}
 use Rattle.impose_laws.specs.TaskForms.{AreFreeOf, IsTaskFreeOf, KeepsForm}
 use Rattle.impose_laws.specs.Laws.{ChildrenKeepTheForm}
-use Rattle.impose_laws.proofs.Lists.{each_appended, each_implied}
+use Rattle.impose_rules.proofs.Lists.{each_appended, each_implied}
 use Rattle.impose_laws.proofs.RowStarts.{IsStart}
 use Rattle.impose_laws.proofs.RowShapes.{rows}
-use Rattle.impose_laws.proofs.ChainParts.{member_of_chain, each_below}
+use Rattle.impose_rules.proofs.ChainParts.{member_of_chain, each_below}
 use Rattle.impose_laws.proofs.Heads.{IsHead, head_without, start_of}
 use Rattle.impose_laws.proofs.ChildrenCases.{IsMade, by_rows, by_children}
 use Rattle.impose_laws.proofs.CommonRows.{row_leads, leads_canonical, leads_free, leads_without, last_polynomial, last_canonical, last_main, last_without}

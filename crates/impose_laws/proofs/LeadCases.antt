@@ -1,6 +1,5 @@
 -- At a point of a task either a lead case has it, or no lead is zero there.
-use Rattle.std.proofs.Common.{◌≡◌, ◌≢◌, ◌⊎◌, inl, inr, ℕ, suc, ◌-◌, Bool, true, false, List, [], ◌∷◌, ◌++◌, map, take, get_or, length, append_assoc, length-append, refl, sym, ap, ap₂, ◌∙◌, subst, arith}
-use Rattle.std.proofs.Math.Seq.{get_or-append_seam, take-append_seam}
+use Rattle.std.proofs.Common.{◌≡◌, ◌≢◌, ◌⊎◌, inl, inr, ℕ, suc, Bool, true, false, List, [], ◌∷◌, ◌++◌, map, length, append_assoc, length-append, refl, sym, ap, ◌∙◌, subst, arith}
 use Rattle.std.specs.List.{AllByRecursion}
 use Rattle.polynomials.specs.Primes.{IsPrime}
 use Rattle.polynomials.specs.Polynomials.{Polynomial, IsPolynomial, ArePolynomials, monic}
@@ -11,6 +10,7 @@ use Rattle.zero_sets.proofs.ValueLaws.{value_at-monic}
 use Rattle.zero_sets.proofs.PointFacts.{zero_or_not}
 use Rattle.impose_rules.specs.Leads.{with_all_nonzero, unknown_from}
 use Rattle.impose_rules.specs.Impose.{child_lead}
+use Rattle.impose_rules.proofs.LeadPlaces.{place_of, with_all-one_more}
 use Rattle.impose_laws.specs.TaskForms.{InSomeTask}
 use Rattle.impose_laws.proofs.KnownNonzero.{known_nonzero, with_nonzero_points}
 
@@ -24,18 +24,6 @@ in_some_left r xs (t ∷ ts) us (inr h) = inr (in_some_left r xs ts us h)
 pub in_some_right : (r : Tables) (xs : List ℕ) (ts us : List Task) → InSomeTask r xs us → InSomeTask r xs (ts ++ us)
 in_some_right r xs [] us h = h
 in_some_right r xs (t ∷ ts) us h = inr (in_some_right r xs ts us h)
-
--- the first of the later ones, and those before it
-pub place_of : (ls before : List Polynomial) (l : Polynomial) (later : List Polynomial) (j : ℕ) → ls ≡ before ++ l ∷ later → j ≡ suc (length before) → (get_or ls (j - 1) [] ≡ l) × (take (j - 1) ls ≡ before)
-place_of ls before l later j e at = (ap₂ (λ k x. get_or x k []) (one_less j at) e ∙ get_or-append_seam before l later [], ap₂ take (one_less j at) e ∙ take-append_seam before (l ∷ later))
-  where
-    one_less : (i : ℕ) → i ≡ suc (length before) → i - 1 ≡ length before
-    one_less i at = omega arith
-
--- several and then one more that don't vanish
-pub with_all-one_more : (p : ℕ) (ns before : List Polynomial) (l : Polynomial) → with_all_nonzero p ns (before ++ l ∷ []) ≡ with_nonzero p (with_all_nonzero p ns before) l
-with_all-one_more p ns [] l = refl
-with_all-one_more p ns (h ∷ before) l = with_all-one_more p (with_nonzero p ns h) before l
 
 module _ (p n w : ℕ) (prime : IsPrime p) (r : Tables) (domain : IsFiniteDomain p r) (xs : List ℕ) (point : IsPoint r xs) (chain rest ns : List Polynomial) (in_chain : InQuasiComponent r xs chain) (in_rest : InZeroSet r xs rest) (f : Polynomial) (zero_f : value_at r xs f ≡ r.nil) (ls : List Polynomial) where
   -- the case of a lead that is zero, where none of those that don't vanish by then is

@@ -2,13 +2,12 @@ mod Examples
 pub mod RowStarts
 pub mod RowShapes
 pub mod RowPoints
-pub mod Lists
 pub mod Options
 pub mod MonicForms
 pub mod Stripped
 pub mod StrippedPoints
 pub mod KnownNonzero
-pub mod ChainParts
+pub mod RegularZeros
 pub mod Heads
 pub mod ChildrenCases
 pub mod CommonRows
@@ -18,5 +17,3 @@ pub mod NonzeroForms
 pub mod Forms
 pub mod KeptForms
 pub mod FewChildren
-pub mod ChangedMembers
-pub mod CaseNumbers

@@ -22,8 +22,9 @@ use Rattle.division_rules.proofs.Down.{down, down_all, down-reduction}
 use Rattle.division_rules.proofs.DownRows.{down_rows, down-remainder_rows}
 use Rattle.division_rules.proofs.Up.{plains_canonical}
 use Rattle.division_rules.proofs.CanonicalRows.{AreRemainderRows-remainder_rows}
-use Rattle.impose_laws.proofs.Lists.{each_both}
-use Rattle.impose_laws.proofs.RowStarts.{HasMainBelow, IsStart, P, lifted, down-lifted, each_lifted, below_rows, row_t, row_c, start_base, start_turn}
+use Rattle.impose_rules.proofs.Lists.{each_both}
+use Rattle.impose_rules.proofs.ChainParts.{HasMainBelow}
+use Rattle.impose_laws.proofs.RowStarts.{IsStart, P, lifted, down-lifted, each_lifted, below_rows, row_t, row_c, start_base, start_turn}
 
 module _ (p n : ℕ) (prime : IsPrime p) where
   -- what holds of the lists of terms of each row

@@ -1,5 +1,5 @@
 -- Where remainder rows of lists of terms start, in terms of the laws of division.
-use Rattle.std.proofs.Common.{◌≡◌, ◌≢◌, ℕ, suc, ◌<◌, ◌≤◌, List, [], ◌∷◌, Some, None, sym, ap, ◌∙◌, subst, arith}
+use Rattle.std.proofs.Common.{◌≡◌, ◌≢◌, ℕ, suc, ◌<◌, ◌≤◌, List, [], ◌∷◌, None, sym, ap, ◌∙◌, subst, arith}
 use Rattle.std.specs.List.{AllByRecursion}
 use Rattle.polynomials.specs.Primes.{IsPrime}
 use Rattle.polynomials.specs.Polynomials.{Polynomial, IsPolynomial, ArePolynomials}
@@ -8,6 +8,7 @@ use Rattle.polynomials.proofs.PolynomialRing.{CanonicalPolynomial}
 use Rattle.polynomials.proofs.MainVariables.{free_above_main_var}
 use Rattle.polynomials.proofs.ExponentsBelow.{ExponentsBelow, ExponentsBelow-one, ExponentsBelow-more, ExponentsBelow-degree}
 use Rattle.zero_sets.specs.ZeroSets.{IsTriangularFrom, IsTriangular}
+use Rattle.impose_rules.proofs.ChainParts.{HasMainBelow}
 use Rattle.division_rules.specs.Rows.{Row, plain, plains}
 use Rattle.division_rules.specs.Lists.{variable_or_zero}
 use Rattle.division_rules.specs.Chains.{EachRow, IsReduced, IsFree}
@@ -19,10 +20,6 @@ use Rattle.division_rules.proofs.ChainParts.{first_turn}
 use Rattle.division_rules.proofs.TriangularReductions.{chain_from_triangular}
 use Rattle.division_rules.proofs.Down.{down_all, down-plains}
 use Rattle.division_rules.proofs.Up.{up_all, terms-up_all}
-
--- each has a main variable less than v
-abbrev pub HasMainBelow : ℕ → Polynomial → Type 0
-HasMainBelow v t = (u : ℕ) × (main_var t ≡ Some u) × (u < v)
 
 -- t and c start remainder rows in v below the chain
 pub record IsStart (p n v : ℕ) (chain : List Polynomial) (t c : Polynomial) : Type 0 where

@@ -10,7 +10,7 @@ use Rattle.division_rules.specs.Quotients.{quotient_within, without_factors}
 use Rattle.division_rules.proofs.QuotientFacts.{quotient_within_nonzero, quotient_within_degree}
 use Rattle.division_rules.proofs.Factors.{without_factors_relates, IsPolynomial-without_factors, degree_in-without_factors}
 use Rattle.impose_rules.specs.Factors.{stripped}
-use Rattle.impose_laws.proofs.Lists.{each_member}
+use Rattle.impose_rules.proofs.Lists.{each_member}
 use Rattle.impose_laws.proofs.MonicForms.{degree_in-monic}
 
 module _ (p n w : ℕ) (prime : IsPrime p) (bs : List Polynomial) (are : ArePolynomials p n bs) where

@@ -13,7 +13,7 @@ use Rattle.division_rules.proofs.Quotients.{quotient_within_exact}
 use Rattle.division_rules.proofs.QuotientFacts.{quotient_within_lead}
 use Rattle.division_rules.proofs.Factors.{without_factors_relates, IsPolynomial-without_factors, without_factors_nonzero}
 use Rattle.impose_rules.specs.Factors.{stripped}
-use Rattle.impose_laws.proofs.Lists.{each_member}
+use Rattle.impose_rules.proofs.Lists.{each_member}
 use Rattle.impose_laws.proofs.MonicForms.{lead_in-monic}
 
 -- each is not zero

@@ -1,3 +1,2 @@
 pub mod TaskForms
-pub mod PartLaws
 pub mod Laws

@@ -3,7 +3,4 @@
 
 mod laws;
 
-pub use laws::{
-    children_are_few, children_cover_the_task, children_keep_the_form, lead_cases_are_the_unknown,
-    member_is_changed,
-};
+pub use laws::{children_are_few, children_cover_the_task, children_keep_the_form};

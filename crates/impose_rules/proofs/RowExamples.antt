@@ -1,8 +1,9 @@
 -- Steps by remainder rows, worked by an independent program.
-use Rattle.std.proofs.Common.{◌≡◌, ℕ, List, [], ◌∷◌, refl}
+use Rattle.std.proofs.Common.{◌≡◌, true, false, ℕ, List, [], ◌∷◌, refl}
 use Rattle.polynomials.specs.Polynomials.{Term, term, Polynomial}
 use Rattle.zero_sets.specs.Tasks.{Task}
 use Rattle.split_paths.specs.declared.splitter.Step.TheVariants.{Gone, TooWide, Kids}
+use Rattle.impose_rules.specs.Laws.{is_unknown}
 use Rattle.impose_rules.specs.Impose.{impose_step}
 
 -- c x^a y^b, and c x^a y^b z^d
@@ -54,3 +55,10 @@ rows_too_wide = refl
 -- a quotient of rows that doesn't fit makes nothing too wide
 undivided_row : impose_step {L = ⊥} 3 3 6 ((xyz 1 0 0 3 ∷ xyz 1 2 0 1 ∷ []) ∷ []) (xyz 1 2 1 2 ∷ xyz 2 0 0 2 ∷ xyz 1 2 0 0 ∷ []) [] [] ≡ Kids (task ((xyz 1 0 0 3 ∷ xyz 1 2 0 1 ∷ []) ∷ []) ((xyz 1 6 2 0 ∷ xyz 2 2 0 0 ∷ []) ∷ (xyz 1 2 1 2 ∷ xyz 2 0 0 2 ∷ xyz 1 2 0 0 ∷ []) ∷ []) ((xyz 1 2 1 0 ∷ xyz 2 0 0 0 ∷ []) ∷ []) ∷ task ((xyz 1 0 0 3 ∷ xyz 1 2 0 1 ∷ []) ∷ []) ((xyz 1 14 4 0 ∷ xyz 1 10 2 0 ∷ xyz 1 6 0 0 ∷ []) ∷ (xyz 1 2 1 2 ∷ xyz 2 0 0 2 ∷ xyz 1 2 0 0 ∷ []) ∷ []) ((xyz 1 2 1 0 ∷ xyz 2 0 0 0 ∷ []) ∷ (xyz 1 6 2 0 ∷ xyz 2 2 0 0 ∷ []) ∷ []) ∷ task ((xyz 1 0 0 3 ∷ xyz 1 2 0 1 ∷ []) ∷ []) ((xyz 1 2 1 0 ∷ xyz 2 0 0 0 ∷ []) ∷ (xyz 1 2 0 0 ∷ []) ∷ []) [] ∷ [])
 undivided_row = refl
+
+-- of the leads x and y, the second is unknown, and isn't where it is known from the start
+second_is_unknown : is_unknown 5 [] ((xy 1 1 0 ∷ []) ∷ (xy 1 0 1 ∷ []) ∷ []) 2 ≡ true
+second_is_unknown = refl
+
+second_is_known : is_unknown 5 ((xy 1 0 1 ∷ []) ∷ []) ((xy 1 1 0 ∷ []) ∷ (xy 1 0 1 ∷ []) ∷ []) 2 ≡ false
+second_is_known = refl

@@ -2,3 +2,4 @@ pub mod Factors
 pub mod Leads
 pub mod Chains
 pub mod Impose
+pub mod Laws

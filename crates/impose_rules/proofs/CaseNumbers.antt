@@ -4,8 +4,8 @@ use Rattle.std.specs.List.{range_with_len}
 use Rattle.polynomials.specs.Polynomials.{Polynomial}
 use Rattle.zero_sets.specs.Tasks.{is_known_nonzero, with_nonzero}
 use Rattle.impose_rules.specs.Leads.{with_all_nonzero, unknown_from}
-use Rattle.impose_laws.specs.PartLaws.{is_unknown, LeadCasesAreTheUnknown}
-use Rattle.impose_laws.proofs.LeadCases.{place_of, with_all-one_more}
+use Rattle.impose_rules.specs.Laws.{is_unknown, LeadCasesAreTheUnknown}
+use Rattle.impose_rules.proofs.LeadPlaces.{place_of, with_all-one_more}
 
 -- a known lead is left out
 left_out : (j : ℕ) (b : Bool) (js ks : List ℕ) → js ≡ ks → elim b as (λ _. List ℕ) [ true ↦ js | false ↦ j ∷ js ] ≡ cond (not b) (j ∷ ks) ks

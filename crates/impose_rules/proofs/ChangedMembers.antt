@@ -5,8 +5,8 @@ use Rattle.polynomials.specs.Polynomials.{Polynomial}
 use Rattle.polynomials.specs.Views.{main_var}
 use Rattle.zero_sets.specs.ZeroSets.{IsTriangularFrom, is_variable, member_in, is_variable_below, members_below}
 use Rattle.impose_rules.specs.Chains.{is_variable_above, members_above, with_member}
-use Rattle.impose_laws.specs.PartLaws.{MemberIsChanged}
-use Rattle.impose_laws.proofs.ChainParts.{with_member_triangular}
+use Rattle.impose_rules.specs.Laws.{MemberIsChanged}
+use Rattle.impose_rules.proofs.ChainParts.{with_member_triangular}
 
 -- the first member, by its main variable
 member_first : (u : ℕ) (t : Polynomial) (chain : List Polynomial) → main_var t ≡ Some u → member_in u (t ∷ chain) ≡ Some t

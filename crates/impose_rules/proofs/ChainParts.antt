@@ -1,15 +1,17 @@
 -- The members of a triangular set below and above a variable.
-use Rattle.std.proofs.Common.{◌≡◌, ◌≢◌, ℕ, suc, ◌≤◌, true, List, [], ◌∷◌, ◌++◌, Option, Some, None, refl, sym, ap, ◌∙◌, subst, arith}
+use Rattle.std.proofs.Common.{◌≡◌, ℕ, suc, ◌<◌, ◌≤◌, true, List, [], ◌∷◌, ◌++◌, Option, Some, None, refl, sym, ap, ◌∙◌, subst, arith}
 use Rattle.std.proofs.lemmas.Bool.{ltb-true, eqb-true}
 use Rattle.std.specs.List.{AllByRecursion}
 use Rattle.polynomials.specs.Polynomials.{Polynomial, IsPolynomial, ArePolynomials}
-use Rattle.polynomials.specs.Views.{main_var, initial_of}
-use Rattle.zero_sets.specs.Domains.{Tables, value_at}
-use Rattle.zero_sets.specs.ZeroSets.{InQuasiComponent, IsTriangularFrom, IsTriangular, is_variable, member_in, is_variable_below, members_below}
+use Rattle.polynomials.specs.Views.{main_var}
+use Rattle.zero_sets.specs.ZeroSets.{IsTriangularFrom, IsTriangular, is_variable, member_in, is_variable_below, members_below}
 use Rattle.division_rules.proofs.Steps.{choose}
 use Rattle.impose_rules.specs.Chains.{is_variable_above, members_above, with_member}
-use Rattle.impose_laws.proofs.Lists.{each_appended}
-use Rattle.impose_laws.proofs.RowStarts.{HasMainBelow}
+use Rattle.impose_rules.proofs.Lists.{each_appended}
+
+-- each has a main variable less than v
+abbrev pub HasMainBelow : ℕ → Polynomial → Type 0
+HasMainBelow v t = (u : ℕ) × (main_var t ≡ Some u) × (u < v)
 
 -- a variable that passes the test is v
 has_variable : (v : ℕ) (o : Option ℕ) → is_variable v o ≡ true → o ≡ Some v
@@ -88,19 +90,3 @@ each_canonical p n (f ∷ fs) h = (h.0, each_canonical p n fs h.1)
 pub canonical_each : (p n : ℕ) (fs : List Polynomial) → AllByRecursion (IsPolynomial p n) fs → ArePolynomials p n fs
 canonical_each p n [] h = tt
 canonical_each p n (f ∷ fs) h = (h.0, canonical_each p n fs h.1)
-
--- the point is a zero of t, and not of its initial
-abbrev pub IsRegularZero : Tables → List ℕ → Polynomial → Type 0
-IsRegularZero r xs t = (value_at r xs t ≡ r.nil) × (value_at r xs (initial_of t) ≢ r.nil)
-
--- a point of a quasi-component, member by member
-pub each_regular : (r : Tables) (xs : List ℕ) (chain : List Polynomial) → InQuasiComponent r xs chain → AllByRecursion (IsRegularZero r xs) chain
-each_regular r xs [] h = tt
-each_regular r xs (t ∷ chain) h = ((h.0.0, h.1.0), each_regular r xs chain (h.0.1, h.1.1))
-
--- and together
-pub regular_each : (r : Tables) (xs : List ℕ) (chain : List Polynomial) → AllByRecursion (IsRegularZero r xs) chain → InQuasiComponent r xs chain
-regular_each r xs [] h = (tt, tt)
-regular_each r xs (t ∷ chain) h =
-    let rest = regular_each r xs chain h.1 in
-    ((h.0.0, rest.0), (h.0.1, rest.1))
