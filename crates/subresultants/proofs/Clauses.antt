@@ -1,10 +1,10 @@
 -- What the laws of remainder rows say of an outcome.
-use Rattle.std.proofs.Common.{◌≡◌, ◌≢◌, ◌-◌, ◌<◌, ℕ, zero, suc, Bool, true, false, List, [], ◌∷◌, length, map, take, drop, All, Option, Some, None, refl, sym, ap, ap₂, subst, ◌∙◌, arith}
+use Rattle.std.proofs.Common.{◌≡◌, ◌≢◌, ◌-◌, ℕ, zero, suc, List, [], ◌∷◌, length, map, take, All, Option, Some, None, refl, sym, ap, subst, ◌∙◌, arith}
 use Rattle.std.specs.List.{slice_get}
 use Rattle.std.proofs.lemmas.List.Elements.{All-nil, All-cons}
 use Rattle.mono_words.specs.declared.mono.TheConstants.{VARS}
 use Rattle.polynomials.specs.Primes.{IsPrime}
-use Rattle.polynomials.specs.Polynomials.{Polynomial, IsPolynomial, ArePolynomials}
+use Rattle.polynomials.specs.Polynomials.{Polynomial, ArePolynomials}
 use Rattle.polynomials.specs.Views.{degree_in}
 use Rattle.polynomials.proofs.Degrees.{lead_in_nonzero}
 use Rattle.polynomials.proofs.PolynomialRing.{CanonicalPolynomial}
@@ -14,7 +14,7 @@ use Rattle.division_rules.specs.Operations.{lead}
 use Rattle.division_rules.specs.Rows.{Row}
 use Rattle.division_rules.specs.Chains.{EachRow, IfRow}
 use Rattle.division_rules.specs.PolynomialRows.{IsPolynomialRow, ArePolynomialRows}
-use Rattle.division_rules.specs.RemainderRows.{Rows, Memory, next_row, undivided, remainder_rows, leads}
+use Rattle.division_rules.specs.RemainderRows.{Rows, remainder_rows, leads}
 use Rattle.division_rules.specs.RemainderRowsWithin.{remainder_rows_within}
 use Rattle.division_rules.specs.Turns.{DegreesFall}
 use Rattle.division_rules.proofs.Settings.{ViewedRing}

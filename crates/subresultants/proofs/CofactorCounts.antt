@@ -1,7 +1,7 @@
 -- Each step gives a row with as many cofactors as the rows that it is made of.
-use Rattle.std.proofs.Common.{◌≡◌, ◌≢◌, ℕ, List, Some, sym, ap, ◌∙◌, length}
+use Rattle.std.proofs.Common.{◌≡◌, ℕ, List, Some, sym, ap, ◌∙◌, length}
 use Rattle.division_rules.specs.Operations.{lead, shifted_lead}
-use Rattle.division_rules.specs.Rows.{Row, elimination, turns, times_row, pseudo_remainder, reduction}
+use Rattle.division_rules.specs.Rows.{Row, elimination, turns, times_row, pseudo_remainder}
 use Rattle.division_rules.specs.Chains.{EachRow}
 use Rattle.division_rules.specs.RemainderRows.{quotients, divided, Memory, next_beta, undivided, next_row}
 use Rattle.division_rules.proofs.Settings.{ViewedRing, operations}

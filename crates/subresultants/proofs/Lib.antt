@@ -9,3 +9,4 @@ pub mod Starts
 pub mod Sequences
 pub mod Clauses
 pub mod PolynomialRemainders
+pub mod OneQuotients

@@ -1,17 +1,13 @@
 -- Negatives, powers, signs, psi and beta that aren't 0.
-use Rattle.std.proofs.Common.{◌≡◌, ◌≢◌, ◌<◌, ℕ, zero, suc, [], ◌∷◌, Option, Some, None, refl, sym, subst, arith}
+use Rattle.std.proofs.Common.{◌≡◌, ◌≢◌, ℕ, zero, suc, [], ◌∷◌, Option, Some, None, refl, sym, subst}
 use Rattle.polynomials.specs.Primes.{IsPrime}
 use Rattle.polynomials.specs.Polynomials.{Polynomial, IsPolynomial, negative_of, product_of}
 use Rattle.polynomials.proofs.Integral.{product_of_nonzero}
 use Rattle.division_rules.specs.Lists.{list_operations}
 use Rattle.division_rules.specs.Operations.{power_of, sign}
-use Rattle.division_rules.specs.Quotients.{quotient_within}
-use Rattle.division_rules.specs.RemainderRows.{or_else}
 use Rattle.division_rules.specs.Within.{and_then, times_within, power_of_within}
 use Rattle.division_rules.proofs.CanonicalRows.{IsPolynomial-power_of}
 use Rattle.division_rules.proofs.CanonicalRowsWithin.{IsPolynomial-power_of_within}
-use Rattle.division_rules.proofs.FreeNonzero.{in_option}
-use Rattle.division_rules.proofs.QuotientFacts.{quotient_within_canonical, quotient_within_nonzero}
 use Rattle.division_rules.proofs.WithinLimits.{Gives, gives-times, gives-power_of}
 
 -- what a step within a width gives

@@ -1,5 +1,5 @@
 -- Remainder rows of polynomials, by those of their rows as generators.
-use Rattle.std.proofs.Common.{◌≡◌, ◌+◌, ◌<◌, ◌≤◌, ℕ, zero, suc, Bool, true, false, List, [], ◌∷◌, length, Some, None, Result, Ok, Err, IfOk, refl, sym, ap, ap₂, subst, ◌∙◌, arith}
+use Rattle.std.proofs.Common.{◌≡◌, ◌+◌, ◌≤◌, ℕ, suc, Bool, true, false, List, [], ◌∷◌, length, Result, Ok, Err, IfOk, refl, sym, ap, ap₂, subst, ◌∙◌, arith}
 use Rattle.mono_words.specs.declared.mono.TheConstants.{VARS}
 use Rattle.polynomials.specs.Primes.{IsPrime}
 use Rattle.polynomials.specs.Polynomials.{Polynomial, IsPolynomial, ArePolynomials}
@@ -9,16 +9,15 @@ use Rattle.division_rules.specs.Lists.{variable_or_zero}
 use Rattle.division_rules.specs.Rows.{Row}
 use Rattle.division_rules.specs.Chains.{EachRow}
 use Rattle.division_rules.specs.PolynomialRows.{IsPolynomialRow, ArePolynomialRows}
-use Rattle.division_rules.specs.Units.{IsCombinationOf, unit_rows}
+use Rattle.division_rules.specs.Units.{IsCombinationOf}
 use Rattle.pseudo_division.specs.FieldOperations.{operations}
 use Rattle.row_laws.specs.Words.{first_entries, AreBelow, StartRemainderRows}
-use Rattle.row_laws.specs.Combinations.{IsRowOver, AreRowsOver}
+use Rattle.row_laws.specs.Combinations.{IsRowOver}
 use Rattle.row_laws.proofs.CombinationRows.{combinations_are_kept}
 use Rattle.row_laws.proofs.Starts.{variable_below}
 use Rattle.subresultants.specs.Generators.{generator_row, generator_rows}
 use Rattle.subresultants.specs.Outcomes.{outcome_of, remainders_of}
 use Rattle.subresultants.specs.Shape.{EachRemainderRow, IfRows, HasFallingDegrees, IsReducedFromRowOne, HasNonzeroLeads, VanishesWithGenerators}
-use Rattle.subresultants.specs.declared.outcome.RemainderRows.{RemainderRows}
 use Rattle.subresultants.specs.declared.outcome.Remainders.{Remainders}
 use Rattle.subresultants.specs.declared.outcome.Remainders.TheVariants.{Coprime, Common, TooWide}
 use Rattle.subresultants.proofs.Clauses.{outcome_canonical, outcome_combinations, outcome_counts, outcome_falls, outcome_leads, outcome_reduced, outcome_vanishes}

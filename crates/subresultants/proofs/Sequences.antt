@@ -10,7 +10,6 @@ use Rattle.division_rules.specs.RemainderRowsWithin.{rows_from_within}
 use Rattle.pseudo_division.specs.FieldOperations.{operations}
 use Rattle.subresultants.specs.Outcomes.{outcome_after, outcome_of}
 use Rattle.subresultants.specs.Turns.{turn_within}
-use Rattle.subresultants.specs.declared.outcome.RemainderRows.{RemainderRows}
 use Rattle.subresultants.specs.declared.outcome.Remainders.TheVariants.{Coprime, Common, TooWide}
 use Rattle.subresultants.specs.declared.turn.Turn.TheVariants.{Zero, Later}
 use Rattle.subresultants.proofs.Outcomes.{outcome-too_wide, outcome-zero, outcome-last, outcome-later, outcome-end, leads-more}

@@ -1,5 +1,5 @@
-ghost use Rattle.std.specs.Prelude.{◌≡◌, ◌≢◌, [], IfOk};
-ghost use Rattle.polynomials.specs.Polynomials.{IsPolynomial, ArePolynomials};
+ghost use Rattle.std.specs.Prelude.{◌≡◌, ◌≢◌, ◌↔◌, [], IfOk, IsTrue};
+ghost use Rattle.polynomials.specs.Polynomials.{IsPolynomial, ArePolynomials, one_of};
 ghost use Rattle.division_rules.specs.PolynomialRows.{IsPolynomialRow};
 ghost use Rattle.division_rules.specs.RemainderRows.{or_else, quotients, divided};
 ghost use Rattle.pseudo_division.specs.FieldOperations.{operations};
@@ -17,10 +17,26 @@ pub fn divided(alloc: Global, w: &Work, row: Row, b: &Poly) -> Result<Row, Alloc
     requires nonzero { b.now ≢ [] }
     ensures { IfOk result (λ r. r ≡ or_else (divided (operations w.now.field) w.now.width b.now row) row) }
 {
+    // Tells that the modulus is prime.
+    let _ = w.field.prime();
+    let whole = is_one(alloc, w, b)?;
+    if whole {
+        return Ok(row);
+    }
     match quotient(alloc, w, &row, b)? {
         None => Ok(row),
         Some(quotient) => Ok(quotient),
     }
+}
+
+/// Whether `b` is 1, by which a quotient would be a copy.
+pub fn is_one(alloc: Global, w: &Work, b: &Poly) -> Result<bool, AllocError>
+    ensures { IfOk result (λ r. IsTrue r ↔ (b.now ≡ one_of VARS)) }
+{
+    // Tells that 1 is a residue.
+    let _ = w.field.prime();
+    let one = Poly::constant(alloc, w.field, 1)?;
+    Ok(*b == one)
 }
 
 /// The quotients of all entries, where each has one.

@@ -8,6 +8,7 @@ ghost use Rattle.division_rules.specs.Within.{and_then, times_within};
 ghost use Rattle.pseudo_division.specs.FieldOperations.{operations};
 ghost use Rattle.subresultants.specs.Turns.{IsMemoryOver, divisors_within, later_psi, later_beta};
 
+use crate::divided::is_one;
 use mono_words::VARS;
 use poly_quotient::quo;
 use pseudo_division::{Row, power};
@@ -135,6 +136,10 @@ fn quotient_or_itself(alloc: Global, w: &Work, a: Poly, b: &Poly) -> Result<Poly
 {
     // Tells that the modulus is prime.
     let _ = w.field.prime();
+    let whole = is_one(alloc, w, b)?;
+    if whole {
+        return Ok(a);
+    }
     match quo(alloc, *w, &a, b)? {
         None => Ok(a),
         Some(quotient) => Ok(quotient),

@@ -11,3 +11,6 @@ mod turn;
 
 pub use outcome::{RemainderRows, Remainders};
 pub use sequence::remainder_rows;
+
+#[cfg(test)]
+mod tests;

@@ -1,5 +1,5 @@
 -- The lead of what isn't 0 is canonical and not 0; nor are 1 and -1.
-use Rattle.std.proofs.Common.{◌≡◌, ◌≢◌, suc, [], sym, ap, subst, ◌∙◌}
+use Rattle.std.proofs.Common.{◌≢◌, suc, [], sym, subst}
 use Rattle.mono_words.specs.declared.mono.TheConstants.{VARS}
 use Rattle.polynomials.specs.Polynomials.{Polynomial, IsPolynomial}
 use Rattle.polynomials.specs.Views.{degree_in}

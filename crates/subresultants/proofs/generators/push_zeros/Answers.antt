@@ -1,5 +1,5 @@
 -- One zero more.
-use Rattle.std.proofs.Common.{◌≡◌, [], ◌∷◌, ◌++◌, replicate, ap, ◌∙◌, append_assoc}
+use Rattle.std.proofs.Common.{[], ◌∷◌, ◌++◌, replicate, ap, ◌∙◌, append_assoc}
 use Rattle.subresultants.proofs.GeneratorRows.{replicate_more}
 use Rattle.subresultants.proofs.generators.push_zeros.Goals as goal
 

@@ -1,5 +1,5 @@
 -- The rows of the generators start remainder rows, and the laws speak of those.
-use Rattle.std.proofs.Common.{◌≡◌, ◌+◌, suc, true, false, Bool, [], ◌∷◌, length, IfOk, sym, ap, subst, ◌∙◌, arith}
+use Rattle.std.proofs.Common.{◌≡◌, ◌+◌, suc, Bool, [], ◌∷◌, length, IfOk, sym, ap, subst, ◌∙◌, arith}
 use Rattle.mono_words.specs.declared.mono.TheConstants.{VARS}
 use Rattle.polynomials.specs.Polynomials.{Polynomial}
 use Rattle.division_rules.specs.Rows.{Row}

@@ -1,6 +1,5 @@
 -- Each turn is one of the definition.
-use Rattle.std.proofs.Common.{◌≡◌, ◌≢◌, ◌≤◌, ◌+◌, ◌-◌, [], ◌∷◌, ◌++◌, length, Some, None, sym, ap, ap₂, subst, ◌∙◌, arith}
-use Rattle.mono_words.specs.declared.mono.TheConstants.{VARS}
+use Rattle.std.proofs.Common.{◌≡◌, ◌+◌, ◌-◌, [], ◌∷◌, ◌++◌, length, Some, None, sym, ap, ap₂, subst, ◌∙◌, arith}
 use Rattle.polynomials.specs.Polynomials.{Polynomial}
 use Rattle.polynomials.specs.Views.{degree_in}
 use Rattle.division_rules.specs.Operations.{lead}
@@ -11,7 +10,7 @@ use Rattle.row_laws.proofs.Starts.{triangular_rows}
 use Rattle.subresultants.specs.Turns.{turn_within}
 use Rattle.subresultants.specs.declared.turn.Turn.TheVariants.{Zero, Later}
 use Rattle.subresultants.proofs.RowTurns.{first_canonical, second_canonical, first_some, second_high, second_less, first_count, second_count, memory_over}
-use Rattle.subresultants.proofs.Sequences.{turn_left, sequence_starts, two_rows, row_turn, sequence-end, sequence-too_wide, sequence-zero, sequence-last, sequence-later}
+use Rattle.subresultants.proofs.Sequences.{turn_left, sequence_starts, row_turn, sequence-end, sequence-too_wide, sequence-zero, sequence-last, sequence-later}
 use Rattle.subresultants.proofs.Starts.{start_row_turn}
 use Rattle.subresultants.proofs.sequence.rows_of.Goals as goal
 
