@@ -1,0 +1,12 @@
+pub mod GeneratorRows
+pub mod Quotients
+pub mod Signs
+pub mod Nonzero
+pub mod Outcomes
+pub mod CofactorCounts
+pub mod RowTurns
+pub mod Starts
+pub mod Sequences
+pub mod Clauses
+pub mod PolynomialRemainders
+pub mod OneQuotients

@@ -1,0 +1,4 @@
+pub mod Generators
+pub mod Outcomes
+pub mod Turns
+pub mod Shape

@@ -1,0 +1,75 @@
+ghost use Rattle.std.specs.Prelude.{◌≡◌, ◌≤◌, [], ◌++◌, length, replicate, IfOk, OnOk};
+ghost use Rattle.subresultants.specs.Generators.{unit_cofactors, generator_row, generator_rows};
+
+use mono_words::VARS;
+use pseudo_division::{Row, Rows};
+use sparse_poly::{Poly, Polys, Work};
+use std::alloc::{AllocError, Global};
+
+/// The polynomial as a row: with cofactors over generators, as many before it and behind it, or
+/// without.
+pub fn generator_row(
+    alloc: Global,
+    w: &Work,
+    f: &Poly,
+    cofactors: bool,
+    before: usize,
+    behind: usize,
+) -> Result<Row, AllocError>
+    ensures { IfOk result (λ r. r ≡ generator_row cofactors before behind f.now) }
+{
+    let first = f.copy()?;
+    let cofactors = if cofactors {
+        unit_cofactors(alloc, w, before, behind)?
+    } else {
+        Polys::new(alloc)
+    };
+    Ok(Row { first, cofactors })
+}
+
+/// The cofactors of a generator: 1 at itself, and 0 at those before it and behind it.
+fn unit_cofactors(
+    alloc: Global,
+    w: &Work,
+    before: usize,
+    behind: usize,
+) -> Result<Polys, AllocError>
+    ensures { IfOk result (λ r. r ≡ unit_cofactors before behind) }
+{
+    // Tells that 1 is a residue.
+    let _ = w.field.prime();
+    let mut list = Polys::new(alloc);
+    push_zeros(alloc, &mut list, before)?;
+    list.push(Poly::constant(alloc, w.field, 1)?)?;
+    push_zeros(alloc, &mut list, behind)?;
+    Ok(list)
+}
+
+/// Adds zeros at the end.
+fn push_zeros(alloc: Global, list: &mut Polys, count: usize) -> Result<(), AllocError>
+    ensures { OnOk result (list.new ≡ list.old ++ replicate count []) }
+{
+    for _ in 0..count {
+        list.push(Poly::zero(alloc))?;
+    }
+    Ok(())
+}
+
+/// The last generators as rows, where two stand before them.
+pub fn generator_rows(
+    alloc: Global,
+    w: &Work,
+    list: &Polys,
+    cofactors: bool,
+) -> Result<Rows, AllocError>
+    requires { length list.now ≤ VARS }
+    ensures { IfOk result (λ r. r ≡ generator_rows w.now.field cofactors 2 list.now) }
+{
+    let mut rows = Rows::new(alloc);
+    let count = list.count();
+    for i in 0..count {
+        let row = generator_row(alloc, w, list.at(i), cofactors, i + 2, count - i - 1)?;
+        rows.push(row)?;
+    }
+    Ok(rows)
+}

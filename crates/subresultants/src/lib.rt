@@ -1,0 +1,16 @@
+//! Remainder rows: the subresultant remainder sequence of two polynomials below a triangular set,
+//! with the cofactors of each row where they are wanted.
+#![tactic(auto)]
+
+mod divided;
+mod divisors;
+mod generators;
+mod outcome;
+mod sequence;
+mod turn;
+
+pub use outcome::{RemainderRows, Remainders};
+pub use sequence::remainder_rows;
+
+#[cfg(test)]
+mod tests;

@@ -1,0 +1,116 @@
+ghost use Rattle.std.specs.Prelude.{◌≡◌, ◌<◌, [], ◌∷◌, true, false, length, IfOk};
+ghost use Rattle.polynomials.specs.Polynomials.{IsPolynomial, ArePolynomials};
+ghost use Rattle.division_rules.specs.Chains.{EachRow};
+ghost use Rattle.division_rules.specs.PolynomialRows.{IsPolynomialRow, ArePolynomialRows};
+ghost use Rattle.division_rules.specs.Units.{IsCombinationOf};
+ghost use Rattle.pseudo_division.specs.FieldOperations.{operations};
+ghost use Rattle.row_laws.specs.Words.{first_entries, StartRemainderRows};
+ghost use Rattle.subresultants.specs.Outcomes.{outcome_of, remainders_of};
+ghost use Rattle.subresultants.specs.Shape.{EachRemainderRow, IfRows, HasFallingDegrees, IsReducedFromRowOne, HasNonzeroLeads, VanishesWithGenerators};
+
+use crate::divisors::Memory;
+use crate::generators::{generator_row, generator_rows};
+use crate::outcome::{RemainderRows, Remainders};
+use crate::turn::{Turn, turn_after};
+use mono_words::VARS;
+use pseudo_division::{Row, Rows};
+use sparse_poly::{Poly, Polys, Work};
+use std::alloc::{AllocError, Global};
+
+/// The remainder rows of `t` and `c` in `v` below the polynomials of `below`: pseudo-remainders of
+/// each two rows in turn, reduced by those polynomials, and divided by what Brown and Traub divide
+/// by where each entry has a quotient. With `cofactors` each row has cofactors over `c`, `t` and the
+/// polynomials of `below`, in this order; else no row has any.
+pub fn remainder_rows(
+    alloc: Global,
+    w: Work,
+    t: &Poly,
+    c: &Poly,
+    v: usize,
+    below: &Polys,
+    cofactors: bool,
+) -> Result<Remainders, AllocError>
+    requires variable { v < VARS }
+    requires first { IsPolynomial w.field VARS t.now }
+    requires second { IsPolynomial w.field VARS c.now }
+    requires chain { ArePolynomials w.field VARS below.now }
+    requires start { StartRemainderRows v below.now t.now c.now }
+    ensures value { IfOk result (λ r. r ≡ remainders_of w.field w.width v cofactors t.now c.now below.now) }
+
+    // Of each row, the zero row too.
+    ensures over { IfOk result (EachRemainderRow (IsPolynomialRow w.field VARS)) }
+    ensures identity { cofactors ≡ true → IfOk result (EachRemainderRow
+        (IsCombinationOf (operations w.field) (c.now ∷ t.now ∷ below.now))) }
+    ensures plain { cofactors ≡ false → IfOk result (EachRemainderRow (λ f. f.cofactors ≡ [])) }
+
+    // Of the rows together.
+    ensures falls { IfOk result (HasFallingDegrees w.field v) }
+    ensures reduced { IfOk result (IfRows (IsReducedFromRowOne below.now)) }
+    ensures leads { IfOk result (IfRows HasNonzeroLeads) }
+    ensures zeros { IfOk result (IfRows
+        (VanishesWithGenerators w.field (c.now ∷ t.now ∷ below.now))) }
+{
+    // Tells that the modulus is prime.
+    let _ = w.field.prime();
+    let w = &w;
+    let count = below.count();
+    let first = generator_row(alloc, w, t, cofactors, 1, count)?;
+    let second = generator_row(alloc, w, c, cofactors, 0, count + 1)?;
+    let chain = generator_rows(alloc, w, below, cofactors)?;
+    rows_of(alloc, w, v, &chain, first, second)
+}
+
+/// The remainder rows of two rows below a chain of rows.
+fn rows_of(
+    alloc: Global,
+    w: &Work,
+    v: usize,
+    chain: &Rows,
+    first: Row,
+    second: Row,
+) -> Result<Remainders, AllocError>
+    requires variable { v < VARS }
+    requires first { IsPolynomialRow w.now.field VARS first }
+    requires second { IsPolynomialRow w.now.field VARS second }
+    requires chain { ArePolynomialRows w.now.field VARS chain.now }
+    requires start { StartRemainderRows v (first_entries chain.now) first.first second.first }
+    requires cofactors { EachRow (λ f. length f.cofactors ≡ length first.cofactors) (first ∷ second ∷ chain.now) }
+    ensures { IfOk result (λ r. r ≡ outcome_of w.now.field w.now.width v chain.now first second) }
+{
+    // Tells that the modulus is prime.
+    let _ = w.field.prime();
+    let turns = second.first.degree_in(v) as u32 + 1;
+    let mut leads = Polys::new(alloc);
+    leads.push(second.first.lead_in(v)?)?;
+    let mut rows = Rows::new(alloc);
+    rows.push(first)?;
+    rows.push(second)?;
+    let mut memory: Memory = None;
+    for _ in 0..turns {
+        let last = rows.count() - 1;
+        match turn_after(
+            alloc,
+            w,
+            v,
+            chain,
+            &memory,
+            rows.at(last - 1),
+            rows.at(last),
+        )? {
+            None => return Ok(Remainders::TooWide),
+            Some(Turn::Zero(row)) => {
+                return Ok(Remainders::Common(RemainderRows { rows, leads }, row));
+            }
+            Some(Turn::Later(row, next)) => {
+                let degree = row.first.degree_in(v);
+                leads.push(row.first.lead_in(v)?)?;
+                rows.push(row)?;
+                if degree == 0 {
+                    return Ok(Remainders::Coprime(RemainderRows { rows, leads }));
+                }
+                memory = Some(next);
+            }
+        }
+    }
+    Ok(Remainders::Coprime(RemainderRows { rows, leads }))
+}
