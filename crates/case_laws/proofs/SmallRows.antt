@@ -1,0 +1,116 @@
+-- Reductions and remainder rows within a width have degrees of at most 65,535.
+use Rattle.std.proofs.Common.{◌≡◌, ℕ, zero, suc, ◌-◌, true, false, eqb, List, [], ◌∷◌, Option, Some, None, IfSome, refl}
+use Rattle.std.specs.List.{AllByRecursion}
+use Rattle.polynomials.specs.Polynomials.{Polynomial, negative_of, product_of, is_zero}
+use Rattle.polynomials.specs.Views.{degree_in}
+use Rattle.polynomials.specs.Fits.{fits}
+use Rattle.division_rules.specs.Operations.{Operations, lead, shifted_lead}
+use Rattle.division_rules.specs.Lists.{list_operations}
+use Rattle.division_rules.specs.Rows.{Row, is_reduced_by, turns}
+use Rattle.division_rules.specs.Chains.{EachRow}
+use Rattle.division_rules.specs.RemainderRows.{Rows, with_row, or_else, row_of, quotients, divided, Memory, fall, leads}
+use Rattle.division_rules.specs.RemainderRowsWithin.{psi_within, beta_within, undivided_within, rows_onward, rows_from_within, remainder_rows_within}
+use Rattle.division_rules.specs.Turns.{last_row}
+use Rattle.division_rules.specs.Within.{and_then, times_within, cross_within, cross_all_within, row_within, elimination_within, sparse_remainder_by_within, sparse_remainder_within, times_all_within, times_row_within, pseudo_remainder_by_within, pseudo_remainder_within, reduction_within}
+use Rattle.division_rules.specs.Quotients.{quotient_within}
+use Rattle.division_rules.proofs.Steps.{choose}
+use Rattle.impose_laws.proofs.Options.{then_holds}
+use Rattle.case_laws.proofs.Parts.{IsSmall}
+use Rattle.case_laws.proofs.Small.{sum_small, negative_small, lead_small, product_small, quotient_small}
+
+-- what follows from a result of the first step holds of what comes of the second
+pub then_follows : {A B : Type 0} (P : A → Type 0) (Q : B → Type 0) (x : Option A) (f : A → Option B) → IfSome x P → ((a : A) → P a → IfSome (f a) Q) → IfSome (and_then x f) Q
+then_follows P Q None f of_x each = tt
+then_follows P Q (Some a) f of_x each = each a of_x
+
+-- a row whose first entry is small
+abbrev pub IsSmallRow : Row Polynomial → Type 0
+IsSmallRow f = IsSmall f.first
+
+-- rows of which each later one is
+abbrev pub AreSmallRows : Rows Polynomial → Type 0
+AreSmallRows rows = EachRow IsSmallRow rows.later
+
+module _ (p n w : ℕ) where
+  abbrev o : Operations Polynomial
+  o = list_operations p n
+
+  times_small : (f g : Polynomial) → IfSome (times_within o w f g) IsSmall
+  times_small f g = choose (λ x. IfSome x IsSmall) (fits w f g) (Some (product_of p f g)) None (λ fit. product_small p w f g fit) (λ e. tt)
+
+  cross_small : (l m f g : Polynomial) → IfSome (cross_within o w l m f g) IsSmall
+  cross_small l m f g = then_follows IsSmall IsSmall (times_within o w l f) (λ x. and_then (times_within o w m g) (λ y. Some (o.plus x (o.minus y)))) (times_small l f) (λ x small_x. then_follows IsSmall IsSmall (times_within o w m g) (λ y. Some (o.plus x (o.minus y))) (times_small m g) (λ y small_y. sum_small p x (negative_of p y) small_x (negative_small p y small_y)))
+
+  row_small : (x : Option Polynomial) (xs : Option (List Polynomial)) → IfSome x IsSmall → IfSome (row_within o w x xs) IsSmallRow
+  row_small x xs small = then_follows IsSmall IsSmallRow x (λ f. and_then xs (λ cs. Some (record { first = f; cofactors = cs }))) small (λ f small_f. then_holds IsSmallRow xs (λ cs. Some (record { first = f; cofactors = cs })) (λ cs e. small_f))
+
+  -- an elimination is made of products that fit
+  elimination_small : (v : ℕ) (f g : Row Polynomial) → IfSome (elimination_within o w v f g) IsSmallRow
+  elimination_small v f g = row_small (cross_within o w (lead o v g.first) (shifted_lead o v f.first g.first) f.first g.first) (cross_all_within o w (lead o v g.first) (shifted_lead o v f.first g.first) f.cofactors g.cofactors) (cross_small (lead o v g.first) (shifted_lead o v f.first g.first) f.first g.first)
+
+  remainder_small : (v : ℕ) (g : Row Polynomial) (k : ℕ) (f : Row Polynomial) → IsSmallRow f → IfSome (sparse_remainder_by_within o w v g k f) IsSmallRow
+  remainder_small v g zero f small = small
+  remainder_small v g (suc k) f small = choose (λ x. IfSome x IsSmallRow) (is_reduced_by o v g f) (Some f) (and_then (elimination_within o w v f g) (λ h. sparse_remainder_by_within o w v g k h)) (λ e. small) (λ e. then_follows IsSmallRow IsSmallRow (elimination_within o w v f g) (λ h. sparse_remainder_by_within o w v g k h) (elimination_small v f g) (λ h small_h. remainder_small v g k h small_h))
+
+  -- so are reductions of what is small
+  pub reduction_small : (chain : List (Row Polynomial)) (f : Row Polynomial) → IsSmallRow f → IfSome (reduction_within o w chain f) IsSmallRow
+  reduction_small [] f small = small
+  reduction_small (t ∷ chain) f small = then_follows IsSmallRow IsSmallRow (reduction_within o w chain f) (λ g. sparse_remainder_within o w (o.views.main t.first) g t) (reduction_small chain f small) (λ g small_g. remainder_small (o.views.main t.first) t (turns o (o.views.main t.first) g.first t.first) g small_g)
+
+  times_row_small : (l : Polynomial) (f : Row Polynomial) → IfSome (times_row_within o w l f) IsSmallRow
+  times_row_small l f = row_small (times_within o w l f.first) (times_all_within o w l f.cofactors) (times_small l f.first)
+
+  turn_small : (v : ℕ) (f g : Row Polynomial) → IfSome (elim (is_reduced_by o v g f) [ true ↦ times_row_within o w (lead o v g.first) f | false ↦ elimination_within o w v f g ]) IsSmallRow
+  turn_small v f g = choose (λ x. IfSome x IsSmallRow) (is_reduced_by o v g f) (times_row_within o w (lead o v g.first) f) (elimination_within o w v f g) (λ e. times_row_small (lead o v g.first) f) (λ e. elimination_small v f g)
+
+  turns_small : (v : ℕ) (g : Row Polynomial) (k : ℕ) (f : Row Polynomial) → IsSmallRow f → IfSome (pseudo_remainder_by_within o w v g k f) IsSmallRow
+  turns_small v g zero f small = small
+  turns_small v g (suc k) f small = then_follows IsSmallRow IsSmallRow (elim (is_reduced_by o v g f) [ true ↦ times_row_within o w (lead o v g.first) f | false ↦ elimination_within o w v f g ]) (λ h. pseudo_remainder_by_within o w v g k h) (turn_small v f g) (λ h small_h. turns_small v g k h small_h)
+
+  -- a pseudo-remainder has a turn at least
+  undivided_small : (v : ℕ) (chain : List (Row Polynomial)) (f g : Row Polynomial) → IfSome (undivided_within o w v chain f g) IsSmallRow
+  undivided_small v chain f g = then_follows IsSmallRow IsSmallRow (pseudo_remainder_within o w v f g) (λ h. reduction_within o w chain h) (then_follows IsSmallRow IsSmallRow (elim (is_reduced_by o v g f) [ true ↦ times_row_within o w (lead o v g.first) f | false ↦ elimination_within o w v f g ]) (λ h. pseudo_remainder_by_within o w v g (degree_in v f.first - degree_in v g.first) h) (turn_small v f g) (λ h small_h. turns_small v g (degree_in v f.first - degree_in v g.first) h small_h)) (λ h small_h. reduction_small chain h small_h)
+
+  -- a quotient within the width is small, and else the row stays
+  divided_small : (b : Polynomial) (s : Row Polynomial) → IsSmallRow s → IsSmallRow (or_else (divided o w b s) s)
+  divided_small b s small = go (quotient_within p w s.first b) refl (quotients o w b s.cofactors)
+    where
+      go : (x : Option Polynomial) → quotient_within p w s.first b ≡ x → (ys : Option (List Polynomial)) → IsSmallRow (or_else (row_of x ys) s)
+      go None e ys = small
+      go (Some x) e None = small
+      go (Some x) e (Some ys) = quotient_small p w s.first b x e
+
+  onward_small : (v : ℕ) (further : Memory o → Row Polynomial → Row Polynomial → Option (Rows Polynomial)) → ((m : Memory o) (f g : Row Polynomial) → IfSome (further m f g) AreSmallRows) → (f g s : Row Polynomial) (q b : Polynomial) → IsSmallRow s → IfSome (rows_onward o w v further f g s q b) AreSmallRows
+  onward_small v further each f g s q b small =
+      let h = or_else (divided o w b s) s in
+      choose (λ x. IfSome x AreSmallRows) (eqb (degree_in v h.first) 0) (Some (record { later = h ∷ []; last = None })) (and_then (further (Some (q, fall o v f g)) g h) (λ rows. Some (with_row h rows))) (λ e. (divided_small b s small, tt)) (λ e. then_follows AreSmallRows AreSmallRows (further (Some (q, fall o v f g)) g h) (λ rows. Some (with_row h rows)) (each (Some (q, fall o v f g)) g h) (λ rows small_rows. (divided_small b s small, small_rows)))
+
+  rows_from_small : (v : ℕ) (chain : List (Row Polynomial)) (k : ℕ) (m : Memory o) (f g : Row Polynomial) → IfSome (rows_from_within o w v chain k m f g) AreSmallRows
+  rows_from_small v chain zero m f g = tt
+  rows_from_small v chain (suc k) m f g = then_follows IsSmallRow AreSmallRows (undivided_within o w v chain f g) by_row (undivided_small v chain f g) (λ s small_s. choose (λ x. IfSome x AreSmallRows) (is_zero s.first) (Some (record { later = []; last = Some s })) (divided_rows s) (λ e. tt) (λ e. then_holds AreSmallRows (psi_within o w m (lead o v f.first)) (by_psi s) (λ q made_q. then_holds AreSmallRows (beta_within o w m (lead o v f.first) q (fall o v f g)) (by_beta s q) (λ b made_b. onward_small v (λ l x y. rows_from_within o w v chain k l x y) (λ l x y. rows_from_small v chain k l x y) f g s q b small_s))))
+    where
+      by_beta : Row Polynomial → Polynomial → Polynomial → Option (Rows Polynomial)
+      by_beta s q b = rows_onward o w v (λ l x y. rows_from_within o w v chain k l x y) f g s q b
+
+      by_psi : Row Polynomial → Polynomial → Option (Rows Polynomial)
+      by_psi s q = and_then (beta_within o w m (lead o v f.first) q (fall o v f g)) (by_beta s q)
+
+      divided_rows : Row Polynomial → Option (Rows Polynomial)
+      divided_rows s = and_then (psi_within o w m (lead o v f.first)) (by_psi s)
+
+      by_row : Row Polynomial → Option (Rows Polynomial)
+      by_row s = elim (is_zero s.first) [ true ↦ Some (record { later = []; last = Some s }) | false ↦ divided_rows s ]
+
+  -- so remainder rows are small, whatever they start with
+  pub rows_small : (v : ℕ) (chain : List (Row Polynomial)) (t c : Row Polynomial) → IfSome (remainder_rows_within o w v chain t c) AreSmallRows
+  rows_small v chain t c = rows_from_small v chain (suc (degree_in v c.first)) None t c
+
+  -- and so are their leads
+  pub leads_small : (v : ℕ) (later : List (Row Polynomial)) → EachRow IsSmallRow later → AllByRecursion IsSmall (leads o v later)
+  leads_small v [] small = tt
+  leads_small v (h ∷ later) small = (lead_small v h.first small.0, leads_small v later small.1)
+
+  -- and the last of them
+  pub last_small : (g : Row Polynomial) (later : List (Row Polynomial)) → IsSmallRow g → EachRow IsSmallRow later → IsSmallRow (last_row g later)
+  last_small g [] small each = small
+  last_small g (h ∷ later) small each = last_small h later each.0 each.1

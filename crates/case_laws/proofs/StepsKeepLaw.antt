@@ -1,0 +1,99 @@
+-- The step of a lawful task is lawful.
+use Rattle.std.proofs.Common.{◌≡◌, ℕ, suc, ◌≤◌, max, Bool, true, false, List, [], ◌∷◌, length, Option, Some, None, IfSome, refl, sym, subst, arith}
+use Rattle.std.specs.List.{AllByRecursion}
+use Rattle.polynomials.specs.Primes.{IsPrime}
+use Rattle.polynomials.specs.Polynomials.{Polynomial}
+use Rattle.polynomials.specs.Views.{main_var}
+use Rattle.zero_sets.specs.ZeroSets.{IsTriangularFrom}
+use Rattle.zero_sets.specs.Tasks.{Task}
+use Rattle.division_rules.specs.Lists.{list_operations}
+use Rattle.division_rules.specs.Rows.{plain, plains}
+use Rattle.division_rules.specs.Within.{reduction_within}
+use Rattle.division_rules.proofs.CanonicalRows.{IsPolynomialRow-reduction}
+use Rattle.division_rules.proofs.Up.{plains_canonical}
+use Rattle.split_paths.specs.Lawful.{IsLawfulStep}
+use Rattle.impose_rules.specs.Impose.{impose_children, step_of}
+use Rattle.impose_rules.proofs.Lists.{each_implied}
+use Rattle.impose_laws.specs.TaskForms.{KeepsForm}
+use Rattle.impose_laws.proofs.FewChildren.{children_are_few}
+use Rattle.impose_laws.proofs.KeptForms.{children_keep_the_form}
+use Rattle.impose_laws.proofs.RowShapes.{reduction_without}
+use Rattle.case_rules.specs.Finish.{has_zero_remainder, first_remainder, step_by_remainder, step_by_nonzero}
+use Rattle.case_rules.specs.Cases.{step_by_queue}
+use Rattle.case_laws.specs.Lawful.{IsLawfulPolynomial, AreLawfulPolynomials, IsLawfulChain, IsLawfulTask}
+use Rattle.case_laws.specs.Laws.{CaseStepsKeepLaw}
+use Rattle.case_laws.proofs.FirstRemainders.{IfRemainder, first_found}
+use Rattle.case_laws.proofs.Parts.{IsSmall, canonical_lawful, free_lawful, small_lawful, lawful_parts, task_over, task_free}
+use Rattle.case_laws.proofs.Reductions.{remainder_is}
+use Rattle.case_laws.proofs.SmallRows.{then_follows, IsSmallRow, reduction_small}
+use Rattle.case_laws.proofs.SmallTasks.{AreSmallTasks, children_small}
+
+-- each polynomial of a triangular set has a main variable
+each_main : (v : ℕ) (chain : List Polynomial) → IsTriangularFrom v chain → AllByRecursion (λ t. (u : ℕ) × (main_var t ≡ Some u)) chain
+each_main v [] triangular = tt
+each_main v (t ∷ chain) triangular = ((triangular.0, triangular.1), each_main (suc triangular.0) chain triangular.3)
+
+module _ (p n k w : ℕ) (prime : IsPrime p) where
+  -- the remainder of a lawful polynomial by a lawful triangular set
+  remainder_lawful : (chain : List Polynomial) → IsLawfulChain p n k chain → (f : Polynomial) → IsLawfulPolynomial p n k f → IfRemainder p n w chain (IsLawfulPolynomial p n k) f
+  remainder_lawful chain lawful f of_f r made =
+      let are = canonical_lawful p n k chain lawful.lawful in
+      subst (IsLawfulPolynomial p n k) (sym (remainder_is p n w chain f r made)) (record {
+        canonical = (IsPolynomialRow-reduction p n prime.many (plains chain) (plain f) (plains_canonical p n prime.many chain are) (of_f.canonical, tt)).0;
+        named = λ v past. reduction_without p n prime v chain f are of_f.canonical (each_main 0 chain lawful.triangular) (free_lawful p n k v past chain lawful.lawful) (of_f.named v past);
+        small = subst IsSmall (remainder_is p n w chain f r made) (subst (λ o. IfSome o IsSmall) made (then_follows IsSmallRow IsSmall (reduction_within (list_operations p n) w (plains chain) (plain f)) (λ g. Some g.first) (reduction_small p n w (plains chain) (plain f) of_f.small) (λ g small. small)));
+      })
+
+  module _ (inputs : List Polynomial) (lawful_inputs : AreLawfulPolynomials p n k inputs) (task : Task) (lawful : IsLawfulTask p n k task) where
+    abbrev IsLawful : Task → Type 0
+    IsLawful child = IsLawfulTask p n k child
+
+    remainders_lawful : (found : Option (Option Polynomial)) → first_remainder p n w task.chain inputs ≡ found → IsLawfulStep IsLawful (IsLawfulChain p n k) (step_by_remainder p n w task.chain task.nonzero found)
+    remainders_lawful None e = tt
+    remainders_lawful (Some None) e = lawful.chain
+    remainders_lawful (Some (Some r)) e = (
+      omega arith,
+      omega arith,
+      (
+        record {
+          chain = lawful.chain;
+          queue = (first_found p n w task.chain (IsLawfulPolynomial p n k) inputs (each_implied (IsLawfulPolynomial p n k) (IfRemainder p n w task.chain (IsLawfulPolynomial p n k)) (remainder_lawful task.chain lawful.chain) inputs lawful_inputs) r e, tt);
+          nonzero = lawful.nonzero;
+        },
+        tt,
+      ),
+    )
+
+    finish_lawful : (found : Option Bool) → IsLawfulStep IsLawful (IsLawfulChain p n k) (step_by_nonzero p n w task.chain inputs task.nonzero found)
+    finish_lawful None = tt
+    finish_lawful (Some true) = tt
+    finish_lawful (Some false) = remainders_lawful (first_remainder p n w task.chain inputs) refl
+
+    -- children that keep the form of the task and are small are lawful
+    kept_lawful : (children : List Task) → AllByRecursion (KeepsForm p n task) children → AreSmallTasks children → AllByRecursion IsLawful children
+    kept_lawful [] kept small = tt
+    kept_lawful (child ∷ children) kept small = (
+      record {
+        chain = record { lawful = lawful_parts p n k child.chain kept.0.over.0 (λ v past. (kept.0.free v (task_free p n k task lawful v past)).0) small.0.0; triangular = kept.0.triangular };
+        queue = lawful_parts p n k child.queue kept.0.over.1 (λ v past. (kept.0.free v (task_free p n k task lawful v past)).1) small.0.1;
+        nonzero = lawful_parts p n k child.nonzero kept.0.over.2 (λ v past. (kept.0.free v (task_free p n k task lawful v past)).2) small.0.2;
+      },
+      kept_lawful children kept.1 small.1,
+    )
+
+    -- and they are fewer than 2 ^ 32
+    few_lawful : (children : Option (List Task)) → IfSome children (AllByRecursion (KeepsForm p n task)) → IfSome children AreSmallTasks → IfSome children (λ kids. length kids ≤ max 2 65535) → IsLawfulStep IsLawful (IsLawfulChain p n k) (step_of children)
+    few_lawful None kept small few = tt
+    few_lawful (Some []) kept small few = tt
+    few_lawful (Some (kid ∷ kids)) kept small few = (omega arith, omega arith, kept_lawful (kid ∷ kids) kept small)
+
+    by_queue : (queue : List Polynomial) → task.queue ≡ queue → IsLawfulStep IsLawful (IsLawfulChain p n k) (step_by_queue p n w inputs task queue)
+    by_queue [] starts = finish_lawful (has_zero_remainder p n w task.chain task.nonzero)
+    by_queue (f ∷ rest) starts =
+        let small = subst (AllByRecursion IsSmall) starts (small_lawful p n k task.queue lawful.queue) in
+        let over = task_over p n k task lawful in
+        few_lawful (impose_children p n w task.chain rest task.nonzero f) (children_keep_the_form p n w task f rest prime over lawful.chain.triangular starts) (children_small p n w task.chain rest task.nonzero (small_lawful p n k task.chain lawful.chain.lawful) small.1 (small_lawful p n k task.nonzero lawful.nonzero) f small.0) (children_are_few p n w 65535 task f rest prime over lawful.chain.triangular starts (small_lawful p n k task.chain lawful.chain.lawful))
+
+-- the law of steps
+pub case_steps_keep_law : CaseStepsKeepLaw
+case_steps_keep_law p n k w inputs prime lawful_inputs task lawful = by_queue p n k w prime inputs lawful_inputs task lawful task.queue refl

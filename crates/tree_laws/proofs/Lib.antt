@@ -1,0 +1,4 @@
+pub mod Some
+pub mod Joined
+pub mod Cover
+pub mod Emitted
