@@ -1,0 +1,4 @@
+pub mod PowerTurns
+pub mod Terms
+pub mod ChainTurns
+pub mod Tokens

@@ -1,0 +1,12 @@
+//! The texts of a report: polynomials, chains, refusals and the other lines, byte for byte.
+#![tactic(auto)]
+
+mod chain;
+mod line;
+mod poly;
+mod status;
+
+pub use chain::print_plain_chain;
+pub use line::{print_end, print_stopped, print_too_long, print_usage};
+pub use poly::{print_poly, write_poly};
+pub use status::Status;
