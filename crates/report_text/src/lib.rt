@@ -7,6 +7,6 @@ mod poly;
 mod status;
 
 pub use chain::print_plain_chain;
-pub use line::{print_end, print_stopped, print_too_long, print_usage};
+pub use line::{print_end, print_refused, print_stopped, print_too_long, print_usage};
 pub use poly::{print_poly, write_poly};
 pub use status::Status;

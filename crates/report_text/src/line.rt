@@ -1,8 +1,17 @@
 ghost use Rattle.std.specs.Prelude.{◌≡◌, IfOk, string_bytes};
-ghost use Rattle.report_text.specs.Lines.{end_line, stopped_line, too_long_line, usage_line};
+ghost use Rattle.report_text.specs.Lines.{end_line, refused_line, stopped_line, too_long_line, usage_line};
 
 use split_paths::{Path, Why};
 use std::alloc::{AllocError, Global};
+use system_parser::ParseError;
+
+/// The line of a text that is no system.
+pub fn print_refused(alloc: Global, e: &ParseError) -> Result<String, AllocError>
+    ensures { IfOk result (λ text. string_bytes text ≡ refused_line e.now.number e.now.line e.now.byte) }
+{
+    let ParseError { number, line, byte } = *e;
+    format!(in alloc; "refused {number} line {line} byte {byte}\n")
+}
 
 /// The line of an input that is too long to be parsed.
 #[tactic(auto, unfolding(crate::specs::Lines::too_long_line))]
