@@ -14,7 +14,7 @@ powers_of_one (name ∷ names) zero = refl
 powers_of_one (name ∷ names) (suc n) = powers_of_one names n
 
 -- no exponent but 0
-all_zero : (m : Monomial) → ((v : ℕ) → exponent_of v m ≡ 0) → m ≡ replicate (length m) 0
+pub all_zero : (m : Monomial) → ((v : ℕ) → exponent_of v m ≡ 0) → m ≡ replicate (length m) 0
 all_zero [] h = refl
 all_zero (e ∷ m) h = ap₂ ◌∷◌ (h 0) (all_zero m (λ v. h (suc v)))
 

@@ -2,11 +2,13 @@
 #![tactic(auto)]
 
 mod chain;
+mod laws;
 mod line;
 mod poly;
 mod status;
 
 pub use chain::print_plain_chain;
+pub use laws::{printed_polynomials_are_read, printed_polynomials_are_spelled};
 pub use line::{print_end, print_refused, print_stopped, print_too_long, print_usage};
 pub use poly::{print_poly, write_poly};
 pub use status::Status;

@@ -1,5 +1,7 @@
 ghost use Rattle.std.specs.Prelude.{◌≡◌, ℕ, ◌≤◌, [], ◌∷◌, ◌++◌, length, map, IfOk, OnOk, string_bytes};
 ghost use Rattle.polynomials.specs.Monomials.{exponent_of};
+ghost use Rattle.polynomials.specs.Views.{degree_in};
+ghost use Rattle.report_text.specs.Laws.{SpellsOver};
 ghost use Rattle.report_text.specs.Polynomials.{power_text, power_texts, powers_text, term_text, poly_text, IsInLeast};
 
 use mono_words::{Mono, VARS};
@@ -10,11 +12,22 @@ use std::fmt::Write;
 /// The text of a polynomial.
 pub fn print_poly(alloc: Global, names: &Names, f: &Poly) -> Result<String, AllocError>
     requires { IsInLeast (length names.now) f.now }
-    ensures { IfOk result (λ text. string_bytes text ≡ poly_text (map string_bytes names.now) f.now) }
+    ensures text { IfOk result (λ text. string_bytes text ≡ poly_text (map string_bytes names.now) f.now) }
+    ensures spells { IfOk result (λ text. SpellsOver VARS (map string_bytes names.now) f.now (string_bytes text)) }
 {
+    tell_exponents(f.terms());
     let mut text = String::new(alloc);
     write_poly(&mut text, names, f)?;
     Ok(text)
+}
+
+/// Does nothing: its clause tells that exponents have 16 bits.
+fn tell_exponents(terms: &[(Mono, u32)])
+    ensures { (v : ℕ) → degree_in v terms.now ≤ 65535 }
+{
+    for t in terms {
+        t.0.shape();
+    }
 }
 
 /// Appends the text of a polynomial.
