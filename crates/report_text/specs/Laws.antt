@@ -23,11 +23,13 @@ pub record IsPrintable (s : Setting) (f : Polynomial) : Type 0 where
 
 -- the text of a polynomial spells it
 abbrev pub PrintedPolynomialsAreSpelled : Type 0
-PrintedPolynomialsAreSpelled = (s : Setting) (f : Polynomial) → IsPrintable s f → SpellsSum s (poly_text s.names f) f
+PrintedPolynomialsAreSpelled =
+    (s : Setting) (f : Polynomial) → IsPrintable s f → SpellsSum s (poly_text s.names f) f
 
 -- and reads as the same polynomial
 abbrev pub PrintedPolynomialsAreRead : Type 0
-PrintedPolynomialsAreRead = (s : Setting) (f : Polynomial) → IsPrintable s f → read_sum s (poly_text s.names f) ≡ Ok f
+PrintedPolynomialsAreRead =
+    (s : Setting) (f : Polynomial) → IsPrintable s f → read_sum s (poly_text s.names f) ≡ Ok f
 
 -- the text spells f, in n exponents: over each modulus of which f has residues, where the names are
 -- those that a system may have

@@ -31,12 +31,15 @@ cause_text Size = codes "size"
 
 -- the end of an answer at a branch that passed a limit
 abbrev pub stopped_line : List ℕ → Why → List ℕ
-stopped_line path why = codes "stopped " ++ (path_text path ++ (codes " " ++ (cause_text why ++ codes "\n")))
+stopped_line path why =
+    codes "stopped " ++ (path_text path ++ (codes " " ++ (cause_text why ++ codes "\n")))
 
 -- the refusal of a text, with its number, its line and its byte
 abbrev pub refused_line : ℕ → ℕ → ℕ → List ℕ
 refused_line number line byte =
-    codes "refused " ++ (decimal number ++ (codes " line " ++ (decimal line ++ (codes " byte " ++ (decimal byte ++ codes "\n")))))
+    codes "refused " ++ (decimal number
+    ++ (codes " line " ++ (decimal line
+    ++ (codes " byte " ++ (decimal byte ++ codes "\n")))))
 
 -- the refusal of an input that is too long
 unfoldable pub too_long_line : List ℕ

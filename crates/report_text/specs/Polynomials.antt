@@ -14,7 +14,8 @@ power_text name e = cond (eqb e 1) name (name ++ (codes "^" ++ decimal e))
 abbrev pub power_texts : List (List ℕ) → Monomial → List (List ℕ)
 power_texts [] m = []
 power_texts (name ∷ names) [] = []
-power_texts (name ∷ names) (e ∷ m) = cond (eqb e 0) (power_texts names m) (power_text name e ∷ power_texts names m)
+power_texts (name ∷ names) (e ∷ m) =
+    cond (eqb e 0) (power_texts names m) (power_text name e ∷ power_texts names m)
 
 -- the coefficient and the powers; the coefficient 1 is left out where a power follows
 abbrev pub factor_texts : ℕ → List (List ℕ) → List (List ℕ)

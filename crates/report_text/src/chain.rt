@@ -16,7 +16,9 @@ pub fn print_plain_chain(
     polys: &Polys,
 ) -> Result<String, AllocError>
     requires { All (IsInLeast (length names.now)) polys.now }
-    ensures { IfOk result (λ text. string_bytes text ≡ plain_chain_text (map string_bytes names.now) path.now polys.now) }
+    ensures { IfOk result (λ text.
+        string_bytes text
+        ≡ plain_chain_text (map string_bytes names.now) path.now polys.now) }
 {
     let place = path.text()?;
     let mut text = format!(in alloc; "chain {place}\n")?;

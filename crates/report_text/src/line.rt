@@ -7,7 +7,8 @@ use system_parser::ParseError;
 
 /// The line of a text that is no system.
 pub fn print_refused(alloc: Global, e: &ParseError) -> Result<String, AllocError>
-    ensures { IfOk result (λ text. string_bytes text ≡ refused_line e.now.number e.now.line e.now.byte) }
+    ensures { IfOk result (λ text.
+        string_bytes text ≡ refused_line e.now.number e.now.line e.now.byte) }
 {
     let ParseError { number, line, byte } = *e;
     format!(in alloc; "refused {number} line {line} byte {byte}\n")

@@ -12,8 +12,10 @@ use std::fmt::Write;
 /// The text of a polynomial.
 pub fn print_poly(alloc: Global, names: &Names, f: &Poly) -> Result<String, AllocError>
     requires { IsInLeast (length names.now) f.now }
-    ensures text { IfOk result (λ text. string_bytes text ≡ poly_text (map string_bytes names.now) f.now) }
-    ensures spells { IfOk result (λ text. SpellsOver VARS (map string_bytes names.now) f.now (string_bytes text)) }
+    ensures text { IfOk result (λ text.
+        string_bytes text ≡ poly_text (map string_bytes names.now) f.now) }
+    ensures spells { IfOk result (λ text.
+        SpellsOver VARS (map string_bytes names.now) f.now (string_bytes text)) }
 {
     tell_exponents(f.terms());
     let mut text = String::new(alloc);
@@ -31,9 +33,11 @@ fn tell_exponents(terms: &[(Mono, u32)])
 }
 
 /// Appends the text of a polynomial.
-pub fn write_poly(text: &mut String, names: &Names, f: &Poly) -> Result<(), AllocError>
+pub(crate) fn write_poly(text: &mut String, names: &Names, f: &Poly) -> Result<(), AllocError>
     requires { IsInLeast (length names.now) f.now }
-    ensures { OnOk result (string_bytes text.new ≡ string_bytes text.old ++ poly_text (map string_bytes names.now) f.now) }
+    ensures { OnOk result
+        (string_bytes text.new ≡ string_bytes text.old
+        ++ poly_text (map string_bytes names.now) f.now) }
 {
     let Some((first, others)) = f.terms().split_first() else {
         return text.push_str("0");
@@ -49,7 +53,9 @@ pub fn write_poly(text: &mut String, names: &Names, f: &Poly) -> Result<(), Allo
 /// Appends the text of a term.
 fn write_term(text: &mut String, names: &Names, t: &(Mono, u32)) -> Result<(), AllocError>
     requires { (v : ℕ) → length names.now ≤ v → exponent_of v t.now.0 ≡ 0 }
-    ensures { OnOk result (string_bytes text.new ≡ string_bytes text.old ++ term_text (map string_bytes names.now) t.now) }
+    ensures { OnOk result
+        (string_bytes text.new ≡ string_bytes text.old
+        ++ term_text (map string_bytes names.now) t.now) }
 {
     let (m, c) = *t;
     // Tells that there are as many exponents as variables.
@@ -69,7 +75,9 @@ fn write_powers(
     begin_term: bool,
 ) -> Result<(), AllocError>
     requires { (v : ℕ) → length names.now ≤ v → exponent_of v m ≡ 0 }
-    ensures { OnOk result (string_bytes text.new ≡ string_bytes text.old ++ powers_text begin_term (power_texts (map string_bytes names.now) m)) }
+    ensures { OnOk result
+        (string_bytes text.new ≡ string_bytes text.old
+        ++ powers_text begin_term (power_texts (map string_bytes names.now) m)) }
 {
     // Tells that there are as many exponents as variables.
     m.shape();
@@ -86,7 +94,9 @@ fn write_powers(
 
 /// Appends a power, behind `*` but for the first factor of a term.
 fn write_factor(text: &mut String, is_first: bool, name: &str, e: u16) -> Result<(), AllocError>
-    ensures { OnOk result (string_bytes text.new ≡ string_bytes text.old ++ powers_text is_first (power_text name.now e ∷ [])) }
+    ensures { OnOk result
+        (string_bytes text.new ≡ string_bytes text.old
+        ++ powers_text is_first (power_text name.now e ∷ [])) }
 {
     if !is_first {
         text.push_str("*")?;
@@ -96,7 +106,8 @@ fn write_factor(text: &mut String, is_first: bool, name: &str, e: u16) -> Result
 
 /// Appends a power; the exponent 1 isn't written.
 fn write_power(text: &mut String, name: &str, e: u16) -> Result<(), AllocError>
-    ensures { OnOk result (string_bytes text.new ≡ string_bytes text.old ++ power_text name.now e) }
+    ensures { OnOk result
+        (string_bytes text.new ≡ string_bytes text.old ++ power_text name.now e) }
 {
     if e == 1 {
         return text.push_str(name);
