@@ -1,0 +1,9 @@
+pub mod PowerTurns
+pub mod Terms
+pub mod ChainTurns
+pub mod Tokens
+pub mod Trees
+pub mod PowerValues
+pub mod TreeValues
+pub mod TreeLimits
+pub mod Spelling

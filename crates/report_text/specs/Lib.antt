@@ -1,0 +1,4 @@
+pub mod Statuses
+pub mod Polynomials
+pub mod Lines
+pub mod Laws
