@@ -1,5 +1,5 @@
 ghost use Rattle.std.specs.Prelude.{◌≡◌, ◌↔◌, ◌-◌, ◌<◌, ◌≤◌, map, length, slice_get, All, IfOk, IsTrue};
-ghost use Rattle.polynomials.specs.Polynomials.{IsPolynomial};
+ghost use Rattle.polynomials.specs.Polynomials.{IsPolynomial, monic};
 ghost use Rattle.polynomials.proofs.SamePolynomials.{SameSums};
 ghost use Rattle.common_divisors.specs.Divisors.{IsUnivariate};
 ghost use Rattle.common_divisors.specs.Coefficients.{AreCoefficients, polynomial_of, terms_from, entry_term};
@@ -80,7 +80,7 @@ pub fn entries(alloc: Global, f: Field, list: &[u32]) -> Result<Vec<(usize, u32)
 }
 
 /// The polynomial with these coefficients.
-pub fn polynomial(alloc: Global, f: Field, list: &[u32]) -> Result<Poly, AllocError>
+fn polynomial(alloc: Global, f: Field, list: &[u32]) -> Result<Poly, AllocError>
     requires { AreCoefficients f list.now }
     ensures value { IfOk result (λ r. r ≡ polynomial_of f VARS list.now) }
     ensures over { IfOk result (IsPolynomial f VARS) }
@@ -93,4 +93,13 @@ pub fn polynomial(alloc: Global, f: Field, list: &[u32]) -> Result<Poly, AllocEr
         terms.push((Mono::power(0, *place as u16), *c))?;
     }
     Poly::from_terms(alloc, f, &terms)
+}
+
+/// The same, divided by the last coefficient; 0 stays.
+pub fn monic_polynomial(alloc: Global, f: Field, list: &[u32]) -> Result<Poly, AllocError>
+    requires { AreCoefficients f list.now }
+    ensures value { IfOk result (λ r. r ≡ monic f (polynomial_of f VARS list.now)) }
+    ensures over { IfOk result (IsPolynomial f VARS) }
+{
+    polynomial(alloc, f, list)?.monic(f)
 }

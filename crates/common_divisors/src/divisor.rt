@@ -4,7 +4,7 @@ ghost use Rattle.common_divisors.specs.Ideals.{HaveOneIdeal};
 ghost use Rattle.common_divisors.specs.Divisors.{IsUnivariate, IsGreatestCommonDivisor};
 ghost use Rattle.common_divisors.specs.Coefficients.{AreCoefficients, polynomial_of};
 
-use crate::coefficients::{coefficients, polynomial};
+use crate::coefficients::{coefficients, monic_polynomial};
 use crate::remainder::remainder;
 use field_table::Field;
 use mono_words::VARS;
@@ -26,7 +26,7 @@ pub fn common_divisor(alloc: Global, f: Field, inputs: &Polys) -> Result<Poly, A
         let input = coefficients(alloc, f, inputs.at(i))?;
         divisor = divisor_of_two(alloc, f, divisor, input)?;
     }
-    polynomial(alloc, f, &divisor)?.monic(f)
+    monic_polynomial(alloc, f, &divisor)
 }
 
 /// A greatest common divisor of two polynomials, by Euclid's remainders.

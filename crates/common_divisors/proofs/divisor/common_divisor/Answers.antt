@@ -1,8 +1,8 @@
 -- The divisor of all inputs, made monic, is the greatest common divisor.
-use Rattle.std.proofs.Common.{◌≡◌, ◌∙◌, [], ◌∷◌, sym, ap, subst, arith}
+use Rattle.std.proofs.Common.{◌≡◌, ◌∙◌, [], ◌∷◌, sym, ap, subst, arith, List, ℕ}
 use Rattle.std.proofs.lemmas.Option.{slice_get_within, get_or_from_slice_get}
 use Rattle.mono_words.specs.declared.mono.TheConstants.{VARS}
-use Rattle.polynomials.specs.Polynomials.{monic}
+use Rattle.polynomials.specs.Polynomials.{Polynomial, monic}
 use Rattle.sparse_poly.proofs.Moduli.{positive_modulus}
 use Rattle.sparse_poly.proofs.SortedTerms.{IfOk-implied}
 use Rattle.common_divisors.specs.Ideals.{IsInIdeal, HaveOneIdeal}
@@ -44,16 +44,20 @@ loop-i-preserved c =
     }
 
 module _ (c : After-drop-divisor-2) where
-  found : IsGreatestCommonDivisor c.args.f VARS c.args.inputs.now (monic c.args.f (polynomial_of c.args.f VARS c.loop-i.divisor.items))
-  found = divisor_made c.args.f VARS c.prime.ensures.prime c.args.inputs.now (polynomial_of c.args.f VARS c.loop-i.divisor.items) c.requires.over (IsPolynomial-polynomial_of VARS c.args.f (positive_modulus c.prime.ensures.least) c.loop-i.divisor.items)
-      (divides_each c.args.f VARS (polynomial_of c.args.f VARS c.loop-i.divisor.items) c.args.inputs.now (λ k input below at. c.loop-i.invariant.divides k input (omega (arith, c.count-i-end.ensures)) at))
+  abbrev divisor : List ℕ
+  divisor = c.loop-i.divisor.items
+
+  found : IsGreatestCommonDivisor c.args.f VARS c.args.inputs.now (monic c.args.f (polynomial_of c.args.f VARS divisor))
+  found = divisor_made c.args.f VARS c.prime.ensures.prime c.args.inputs.now (polynomial_of c.args.f VARS divisor) c.requires.over (IsPolynomial-polynomial_of VARS c.args.f (positive_modulus c.prime.ensures.least) divisor)
+      (divides_each c.args.f VARS (polynomial_of c.args.f VARS divisor) c.args.inputs.now (λ k input below at. c.loop-i.invariant.divides k input (omega arith) at))
       c.loop-i.invariant.member
 
-  result_is : monic c.args.f (polynomial_of c.args.f VARS c.loop-i.divisor.items) ≡ monic c.args.f c.in_ok-polynomial.field-0
-  result_is = ap (monic c.args.f) (sym (c.in_ok-polynomial.ensures.value ∙ ap (polynomial_of c.args.f VARS) c.deref.ensures.value))
+  -- what was returned is the divisor of the list, made monic
+  result_found : (r : Polynomial) → r ≡ monic c.args.f (polynomial_of c.args.f VARS c.deref.result.now) → IsGreatestCommonDivisor c.args.f VARS c.args.inputs.now r
+  result_found r e = subst (IsGreatestCommonDivisor c.args.f VARS c.args.inputs.now) (sym (e ∙ ap (λ l. monic c.args.f (polynomial_of c.args.f VARS l)) c.deref.ensures.value)) found
 
 pub returns-clause-divisor : goal.returns-clause-divisor
-returns-clause-divisor c = IfOk-implied _ _ c.monic-2.result (λ r e. subst (IsGreatestCommonDivisor c.args.f VARS c.args.inputs.now) (result_is c ∙ sym e) (found c)) c.monic-2.ensures.monic
+returns-clause-divisor c = IfOk-implied _ _ c.monic_polynomial.result (λ r e. result_found c r e) c.monic_polynomial.ensures.value
 
 pub returns-clause-variable : goal.returns-clause-variable
-returns-clause-variable c = IfOk-implied _ _ c.monic-2.result (λ r e. subst IsUnivariate (result_is c ∙ sym e) (result_univariate c.args.f VARS c.prime.ensures.prime c.args.inputs.now _ c.requires.over c.requires.variable (found c))) c.monic-2.ensures.monic
+returns-clause-variable c = IfOk-implied _ _ c.monic_polynomial.result (λ r e. result_univariate c.args.f VARS c.prime.ensures.prime c.args.inputs.now r c.requires.over c.requires.variable (result_found c r e)) c.monic_polynomial.ensures.value
