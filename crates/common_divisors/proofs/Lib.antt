@@ -1,0 +1,10 @@
+pub mod IdealLemmas
+pub mod DivisorLemmas
+pub mod PointLemmas
+pub mod CoefficientLemmas
+pub mod DivisionTurns
+pub mod EntryTurns
+pub mod EuclidTurns
+pub mod MadeCoefficients
+pub mod Existence
+pub mod UnivariateLemmas

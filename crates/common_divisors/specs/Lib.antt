@@ -1,0 +1,5 @@
+pub mod Ideals
+pub mod Divisors
+pub mod Chains
+pub mod Laws
+pub mod Coefficients
