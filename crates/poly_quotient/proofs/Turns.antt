@@ -1,16 +1,23 @@
 -- The turns of a division from the greatest term down: when it stops, goes on and ends.
-use Rattle.std.proofs.Common.{◌≡◌, ◌≢◌, ◌⊎◌, ℕ, ◌+◌, ◌-◌, ◌*◌, ◌%◌, ◌<◌, ◌≤◌, Bool, true, false, [], ◌∷◌, ◌++◌, length, drop, get_or, mul-le-mul, Some, None, refl, sym, ap, ap₂, ◌∙◌, subst, inl, inr, length-append, arith}
+use Rattle.std.proofs.Common.{◌≡◌, ◌≢◌, ◌⊎◌, ℕ, ◌+◌, ◌-◌, ◌*◌, ◌%◌, ◌<◌, ◌≤◌, Bool, true, false, [], ◌∷◌, ◌++◌, length, take, drop, get_or, mul-le-mul, Some, None, refl, sym, ap, ap₂, ◌∙◌, subst, inl, inr, length-append, arith}
+use Rattle.std.proofs.Math.Nat.{mod-eq_of_lt}
 use Rattle.std.proofs.lemmas.Bool.{cases_lt}
 use Rattle.polynomials.specs.Primes.{IsPrime, inverse_of}
 use Rattle.polynomials.specs.Monomials.{Monomial, exponent_of, monomial_product, MonomialDivides}
-use Rattle.polynomials.specs.Polynomials.{Term, term, Polynomial, IsPolynomial, product_of, difference_of}
+use Rattle.polynomials.specs.Polynomials.{Term, term, Polynomial, IsPolynomial, sum_of, product_of, opposite_term, negative_of, difference_of}
 use Rattle.polynomials.specs.Views.{degree_in}
 use Rattle.polynomials.specs.Fits.{fits}
-use Rattle.polynomials.proofs.FitsLemmas.{fits_in_each_variable}
+use Rattle.polynomials.proofs.RingLaws.{neg-times}
+use Rattle.polynomials.proofs.Canonical.{IsPolynomial-negative_of}
+use Rattle.sparse_poly.proofs.Places.{take_rest}
+use Rattle.polynomials.proofs.PolynomialRing.{polynomial_ring}
+use Rattle.sparse_poly.specs.Pairs.{FitsEach}
+use Rattle.sparse_poly.proofs.FittingPairs.{FitsEach-from_degrees}
+use Rattle.sparse_poly.proofs.Products.{product_of-term}
 use Rattle.division_rules.specs.Quotients.{monomial_divides, monomial_over, term_over, quotient_within}
 use Rattle.division_rules.proofs.TermQuotients.{monomial_divides_iff, monomial_over-product}
 use Rattle.division_rules.proofs.QuotientCases.{quotient_within_none, fits_by_terms}
-use Rattle.division_rules.proofs.Divisions.{IsDivision, division_begins, first_quotient_canonical}
+use Rattle.division_rules.proofs.Divisions.{IsDivision, division_begins, difference_of_same_first, first_quotient_canonical, multiple_canonical, first_quotient_times_first}
 use Rattle.division_rules.proofs.DivisionSteps.{division_continues, division_ends, division_fits, division_stops, division_too_long, division_too_high}
 
 -- what stands at the first place of what isn't 0 comes first
@@ -18,36 +25,50 @@ pub first_of : (s f : Polynomial) (t : Term) → s ≡ f → f ≢ [] → t ≡ 
 first_of s [] t same some is = absurd (some refl)
 first_of s (x ∷ f) t same some is = ap (λ y. y ∷ f) (sym (subst (λ (l : Polynomial). t ≡ get_or l 0 t) same is))
 
+-- and the later terms stand after it
+pub first_and_later : (s r f : Polynomial) (t : Term) → s ≡ f → r ≡ f → f ≢ [] → t ≡ get_or s 0 t → f ≡ t ∷ take (length r - 1) (drop 1 r)
+first_and_later s r f t same again some is =
+    first_of s f t same some is
+    ∙ ap (λ l. t ∷ l) (sym (take_rest f 1) ∙ ap (λ (l : Polynomial). take (length l - 1) (drop 1 l)) (sym again))
+
+-- the opposite of a term with a residue other than 0
+pub opposite_residue : (p : ℕ) (s : Term) → 0 < s.1 → s.1 < p → term s.0 ((p - s.1) % p) ≡ opposite_term p s
+opposite_residue p s some small = ap (λ x. term s.0 x) (mod-eq_of_lt (omega arith))
+
 -- one more term leaves less room
 pub less_room : (k m w k' : ℕ) → 0 < m → (k + 1) * m ≤ w → k' ≡ k + 1 → w - k' < w - k
 less_room k m w k' some short more =
     let grows : (k + 1) * 1 ≤ (k + 1) * m = mul-le-mul (omega arith) (omega arith) in
     omega arith
 
-module _ (p n w : ℕ) (prime : IsPrime p) (a b : Polynomial) (u : Term) (i : IsPolynomial p n a) (j : IsPolynomial p n b) (some : a ≢ []) (whole : b ≡ u ∷ drop 1 b) where
+module _ (p n w : ℕ) (prime : IsPrime p) (a b : Polynomial) (u : Term) (i : IsPolynomial p n a) (j : IsPolynomial p n b) (some : a ≢ []) (g : Polynomial) (whole : b ≡ u ∷ g) where
   positive : 0 < p
   positive = omega (arith, prime.many)
 
-  j_whole : IsPolynomial p n (u ∷ drop 1 b)
+  j_whole : IsPolynomial p n (u ∷ g)
   j_whole = subst (IsPolynomial p n) whole j
 
   -- where there is no quotient by the first term and the others, there is none
-  none_of_whole : quotient_within p w a (u ∷ drop 1 b) ≡ None → quotient_within p w a b ≡ None
+  none_of_whole : quotient_within p w a (u ∷ g) ≡ None → quotient_within p w a b ≡ None
   none_of_whole h = ap (quotient_within p w a) whole ∙ h
 
+  -- the later terms of the divisor are canonical
+  pub later_canonical : IsPolynomial p n g
+  later_canonical = j_whole.4
+
   -- a division begins without a term
-  pub begins : (ts rest : Polynomial) → ts ≡ [] → rest ≡ a → IsDivision p n u (drop 1 b) a ts rest
+  pub begins : (ts rest : Polynomial) → ts ≡ [] → rest ≡ a → IsDivision p n u (g) a ts rest
   begins ts rest no_term all =
-      subst (λ k. IsDivision p n u (drop 1 b) a k rest) (sym no_term)
-      (subst (λ r. IsDivision p n u (drop 1 b) a [] r) (sym all) (division_begins p n u (drop 1 b) a positive i))
+      subst (λ k. IsDivision p n u (g) a k rest) (sym no_term)
+      (subst (λ r. IsDivision p n u (g) a [] r) (sym all) (division_begins p n u (g) a positive i))
 
   -- a term is the quotient of two others where its product by one is the other
   pub term_is : (t s : Term) → length s.0 ≡ n → monomial_product s.0 u.0 ≡ t.0 → s.1 ≡ t.1 * inverse_of p u.1 % p → s ≡ term_over p t u
   term_is t s long product over = ap₂ term (sym (sym (ap (λ m. monomial_over m u.0) product) ∙ monomial_over-product u.0 s.0 (j_whole.0 ∙ sym long))) over
 
-  module _ (ts rest : Polynomial) (t : Term) (first : rest ≡ t ∷ drop 1 rest) (d : IsDivision p n u (drop 1 b) a ts rest) where
-    e : IsDivision p n u (drop 1 b) a ts (t ∷ drop 1 rest)
-    e = subst (λ r. IsDivision p n u (drop 1 b) a ts r) first d
+  module _ (ts rest later : Polynomial) (t : Term) (first : rest ≡ t ∷ later) (d : IsDivision p n u (g) a ts rest) where
+    e : IsDivision p n u (g) a ts (t ∷ later)
+    e = subst (λ r. IsDivision p n u (g) a ts r) first d
 
     -- the test of divisibility is that of exponents
     divides_test : MonomialDivides u.0 t.0 → monomial_divides u.0 t.0 ≡ true
@@ -55,7 +76,7 @@ module _ (p n w : ℕ) (prime : IsPrime p) (a b : Polynomial) (u : Term) (i : Is
 
     -- there is no quotient where the first term isn't a multiple
     pub stops_undivided : (MonomialDivides u.0 t.0 → ⊥) → quotient_within p w a b ≡ None
-    stops_undivided undivided = none_of_whole (division_stops p n prime u (drop 1 b) j_whole a w i ts t (drop 1 rest) e (go (monomial_divides u.0 t.0) refl))
+    stops_undivided undivided = none_of_whole (division_stops p n prime u (g) j_whole a w i ts t (later) e (go (monomial_divides u.0 t.0) refl))
       where
         go : (c : Bool) → monomial_divides u.0 t.0 ≡ c → monomial_divides u.0 t.0 ≡ false
         go false h = h
@@ -69,8 +90,8 @@ module _ (p n w : ℕ) (prime : IsPrime p) (a b : Polynomial) (u : Term) (i : Is
         s = term_over p t u
 
         go : (c : Bool) → monomial_divides u.0 t.0 ≡ c → quotient_within p w a b ≡ None
-        go false h = none_of_whole (division_stops p n prime u (drop 1 b) j_whole a w i ts t (drop 1 rest) e h)
-        go true h = none_of_whole (division_too_long p n prime u (drop 1 b) j_whole a w i (ts ++ s ∷ []) (difference_of p (t ∷ drop 1 rest) (product_of p (s ∷ []) (u ∷ drop 1 b))) (division_continues p n prime u (drop 1 b) j_whole a ts t (drop 1 rest) h e) some (subst (λ k. w < k) (ap₂ ◌*◌ (sym (length-append ts (s ∷ []))) (ap length whole)) long))
+        go false h = none_of_whole (division_stops p n prime u (g) j_whole a w i ts t (later) e h)
+        go true h = none_of_whole (division_too_long p n prime u (g) j_whole a w i (ts ++ s ∷ []) (difference_of p (t ∷ later) (product_of p (s ∷ []) (u ∷ g))) (division_continues p n prime u (g) j_whole a ts t (later) h e) some (subst (λ k. w < k) (ap₂ ◌*◌ (sym (length-append ts (s ∷ []))) (ap length whole)) long))
 
     module _ (s : Term) (is : s ≡ term_over p t u) (room : Monomial) (has : (v : ℕ) → exponent_of v room + degree_in v b ≡ degree_in v a) where
       -- nor where the next term has a greater exponent than the quotient can have
@@ -83,35 +104,69 @@ module _ (p n w : ℕ) (prime : IsPrime p) (a b : Polynomial) (u : Term) (i : Is
               let same = ap (λ x. exponent_of v x.0) is in
               let degree = ap (degree_in v) whole in
               let sum = has v in
-              let none = none_of_whole (division_too_high p n prime u (drop 1 b) j_whole a w i ts t (drop 1 rest) v e some (omega arith)) in
+              let none = none_of_whole (division_too_high p n prime u (g) j_whole a w i ts t (later) v e some (omega arith)) in
               cc
 
-    -- the next term of the quotient takes its product from the rest
-    pub turn : (s : Term) → s ≡ term_over p t u → MonomialDivides u.0 t.0 → IsDivision p n u (drop 1 b) a (ts ++ s ∷ []) (difference_of p rest (product_of p (s ∷ []) b))
-    turn s is divides =
-        subst (λ r. IsDivision p n u (drop 1 b) a (ts ++ s ∷ []) (difference_of p r (product_of p (s ∷ []) b))) (sym first)
-        (subst (λ x. IsDivision p n u (drop 1 b) a (ts ++ x ∷ []) (difference_of p (t ∷ drop 1 rest) (product_of p (x ∷ []) b))) (sym is)
-        (subst (λ y. IsDivision p n u (drop 1 b) a (ts ++ term_over p t u ∷ []) (difference_of p (t ∷ drop 1 rest) (product_of p (term_over p t u ∷ []) y))) (sym whole)
-        (division_continues p n prime u (drop 1 b) j_whole a ts t (drop 1 rest) (divides_test divides) e)))
+    -- what is left is the later terms and the product of the opposite term by the divisor's later terms
+    left_after : (divides : monomial_divides u.0 t.0 ≡ true) → difference_of p (t ∷ later) (product_of p (term_over p t u ∷ []) (u ∷ g)) ≡ sum_of p later (product_of p (negative_of p (term_over p t u ∷ [])) g)
+    left_after divides =
+        ap (difference_of p (t ∷ later)) multiple_is
+        ∙ difference_of_same_first p n prime.many t later product e.rest_canonical (subst (IsPolynomial p n) multiple_is (multiple_canonical p n prime u g j_whole t later e.rest_canonical divides))
+        ∙ ap (sum_of p later) (sym (ap (λ x. x.0) (neg-times (polynomial_ring p n prime.many) (s ∷ [], is) (g, j_whole.4))))
+      where
+        s : Term
+        s = term_over p t u
+
+        is : IsPolynomial p n (s ∷ [])
+        is = first_quotient_canonical p n prime u g j_whole t later e.rest_canonical divides
+
+        product : Polynomial
+        product = product_of p (s ∷ []) g
+
+        multiple_is : product_of p (s ∷ []) (u ∷ g) ≡ t ∷ product
+        multiple_is =
+            product_of-term p n prime s (u ∷ g) is j_whole
+            ∙ ap₂ ◌∷◌ (first_quotient_times_first p n prime u g j_whole t later e.rest_canonical divides) (sym (product_of-term p n prime s g is j_whole.4))
+
+    -- the next term of the quotient leaves that
+    pub turn : (s : Term) (next : Polynomial) → s ≡ term_over p t u → MonomialDivides u.0 t.0 → next ≡ sum_of p later (product_of p (negative_of p (s ∷ [])) g) → IsDivision p n u g a (ts ++ s ∷ []) next
+    turn s next is divides leaves =
+        subst (λ r. IsDivision p n u g a (ts ++ s ∷ []) r) (left_after (divides_test divides) ∙ ap (λ x. sum_of p later (product_of p (negative_of p (x ∷ [])) g)) (sym is) ∙ sym leaves)
+        (subst (λ x. IsDivision p n u g a (ts ++ x ∷ []) (difference_of p (t ∷ later) (product_of p (term_over p t u ∷ []) (u ∷ g)))) (sym is)
+        (division_continues p n prime u g j_whole a ts t later (divides_test divides) e))
 
     -- by itself it is canonical
     pub term_canonical : (s : Term) → s ≡ term_over p t u → MonomialDivides u.0 t.0 → IsPolynomial p n (s ∷ [])
-    term_canonical s is divides = subst (λ x. IsPolynomial p n (x ∷ [])) (sym is) (first_quotient_canonical p n prime u (drop 1 b) j_whole t (drop 1 rest) e.rest_canonical (divides_test divides))
+    term_canonical s is divides = subst (λ x. IsPolynomial p n (x ∷ [])) (sym is) (first_quotient_canonical p n prime u (g) j_whole t (later) e.rest_canonical (divides_test divides))
+
+    -- the opposite term by itself is canonical
+    pub opposite_canonical : (s : Term) (c : ℕ) → s ≡ term_over p t u → MonomialDivides u.0 t.0 → c ≡ (p - s.1) % p → IsPolynomial p n (term s.0 c ∷ [])
+    opposite_canonical s c is divides opposite =
+        let single = term_canonical s is divides in
+        subst (λ x. IsPolynomial p n (x ∷ [])) (sym (ap (λ x. term s.0 x) opposite ∙ opposite_residue p s single.1 single.2)) (IsPolynomial-negative_of p n (s ∷ []) single)
+
+    -- so its product is taken from the rest
+    pub opposite_product : (s : Term) (c : ℕ) → s ≡ term_over p t u → MonomialDivides u.0 t.0 → c ≡ (p - s.1) % p → (next : Polynomial) → next ≡ sum_of p later (product_of p (term s.0 c ∷ []) g) → next ≡ sum_of p later (product_of p (negative_of p (s ∷ [])) g)
+    opposite_product s c is divides opposite next leaves =
+        let single = term_canonical s is divides in
+        leaves ∙ ap (λ x. sum_of p later (product_of p (x ∷ []) g)) (ap (λ x. term s.0 x) opposite ∙ opposite_residue p s single.1 single.2)
 
   module _ (most : (v : ℕ) → degree_in v a ≤ 65535) where
-    -- its product by b fits
-    pub part_fits : (s : Term) (k : ℕ) → (k + 1) * length b ≤ w → (room : Monomial) → ((v : ℕ) → exponent_of v room + degree_in v b ≡ degree_in v a) → MonomialDivides s.0 room → fits w (s ∷ []) b ≡ true
-    part_fits s k short room has low = (fits_in_each_variable w (s ∷ []) b).1 (inr (inr (few, λ v. let sum = has v in let bound = most v in let small = low v in omega arith)))
-      where
-        few : 1 * length b ≤ w
-        few = let parts : (k + 1) * length b ≡ k * length b + length b = omega arith in omega arith
+    -- the products of a next term by the divisor's later terms have exponents of 16 bits
+    pub later_fits : (m room : Monomial) → ((v : ℕ) → exponent_of v room + degree_in v b ≡ degree_in v a) → MonomialDivides m room → FitsEach m g
+    later_fits m room has low = FitsEach-from_degrees m g (λ v.
+        let degree = ap (degree_in v) whole in
+        let sum = has v in
+        let bound = most v in
+        let small = low v in
+        omega arith)
 
     -- where nothing is left the terms are the quotient
-    pub done : (ts rest : Polynomial) → rest ≡ [] → IsDivision p n u (drop 1 b) a ts rest → length ts * length b ≤ w → quotient_within p w a b ≡ Some ts
+    pub done : (ts rest : Polynomial) → rest ≡ [] → IsDivision p n u (g) a ts rest → length ts * length b ≤ w → quotient_within p w a b ≡ Some ts
     done ts rest nothing d few =
         ap (quotient_within p w a) whole
-        ∙ division_fits p n prime u (drop 1 b) j_whole a w i ts e
-        (subst (λ y. fits w ts y ≡ true) whole (fits_by_terms p n w a b prime i j (λ none. let h = sym whole ∙ none in cc) ts e.terms_canonical (ap (product_of p ts) whole ∙ division_ends p n prime u (drop 1 b) j_whole a ts e) some most few))
+        ∙ division_fits p n prime u (g) j_whole a w i ts e
+        (subst (λ y. fits w ts y ≡ true) whole (fits_by_terms p n w a b prime i j (λ none. let h = sym whole ∙ none in cc) ts e.terms_canonical (ap (product_of p ts) whole ∙ division_ends p n prime u (g) j_whole a ts e) some most few))
       where
-        e : IsDivision p n u (drop 1 b) a ts []
-        e = subst (λ r. IsDivision p n u (drop 1 b) a ts r) nothing d
+        e : IsDivision p n u (g) a ts []
+        e = subst (λ r. IsDivision p n u (g) a ts r) nothing d

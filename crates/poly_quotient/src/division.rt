@@ -4,6 +4,7 @@ ghost use Rattle.polynomials.specs.Polynomials.{IsPolynomial};
 ghost use Rattle.polynomials.specs.Views.{degree_in};
 ghost use Rattle.division_rules.specs.Quotients.{quotient_within};
 
+use crate::rest::Rest;
 use crate::single::divided_by_term;
 use mono_words::{Mono, VARS};
 use sparse_poly::{Poly, Work};
@@ -59,9 +60,9 @@ fn divided_by_terms(
     let lead = b.terms()[0];
     let inverse = f.inv(lead.1);
     let mut quotient = Vec::new(alloc);
-    let mut rest = a.copy()?;
-    while !rest.is_zero() {
-        let first = rest.terms()[0];
+    let later = &b.terms()[1..];
+    let mut rest = Rest::of(alloc, a.terms());
+    while let Some(first) = rest.take_first(f) {
         let terms = (quotient.len() as u128 + 1) * b.term_count() as u128;
         if terms > w.width as u128 || !lead.0.divides(first.0) {
             return Ok(None);
@@ -72,10 +73,7 @@ fn divided_by_terms(
         if !t.0.divides(room) {
             return Ok(None);
         }
-        match Poly::from_terms(alloc, f, &[t])?.mul(w, b)? {
-            None => return Ok(None),
-            Some(multiple) => rest = rest.sub(f, &multiple)?,
-        }
+        rest.add_product(f, (t.0, f.neg(t.1)), later)?;
         quotient.push(t)?;
     }
     Ok(Some(quotient))

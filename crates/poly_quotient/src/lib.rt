@@ -5,6 +5,7 @@ mod degrees;
 mod division;
 mod factors;
 mod quotient;
+mod rest;
 mod single;
 
 pub use factors::strip;

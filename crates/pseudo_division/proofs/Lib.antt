@@ -5,3 +5,4 @@ pub mod RowParts
 pub mod TurnsWithin
 pub mod ChainTurns
 pub mod PlainRows
+pub mod CombinationResults

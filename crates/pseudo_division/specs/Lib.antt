@@ -1,2 +1,3 @@
 pub mod FieldOperations
 pub mod Turns
+pub mod Combinations

@@ -1,8 +1,9 @@
-ghost use Rattle.std.specs.Prelude.{◌≡◌, ◌<◌, ◌≤◌, length, IfOk, IfSome};
+ghost use Rattle.std.specs.Prelude.{◌≡◌, ◌<◌, ◌≤◌, [], ◌∷◌, length, IfOk, IfSome};
 ghost use Rattle.polynomials.specs.Polynomials.{IsPolynomial};
 ghost use Rattle.polynomials.specs.Views.{degree_in};
 ghost use Rattle.division_rules.specs.PolynomialRows.{IsPolynomialRow};
 ghost use Rattle.division_rules.specs.Within.{elimination_within, times_row_within};
+ghost use Rattle.pseudo_division.specs.Combinations.{IsCombinationWhere};
 ghost use Rattle.pseudo_division.specs.FieldOperations.{operations};
 
 use crate::leads::{lead, shifted_lead};
@@ -30,6 +31,8 @@ pub fn eliminate(
     ensures value { IfOk result (λ r. r ≡ elimination_within (operations w.field) w.width v f.now g.now) }
     ensures over { IfOk result (λ r. IfSome r (IsPolynomialRow w.field VARS)) }
     ensures cofactors { IfOk result (λ r. IfSome r (λ h. length h.cofactors ≡ length f.now.cofactors)) }
+    ensures combination { IfOk result (λ r. IfSome r (
+        IsCombinationWhere w.field (f.now ∷ g.now ∷ []))) }
 {
     // Tells that the modulus is prime.
     let _ = w.field.prime();

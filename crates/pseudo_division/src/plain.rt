@@ -1,7 +1,8 @@
 ghost use Rattle.std.specs.Prelude.{◌≡◌, IfOk, IfSome};
 ghost use Rattle.polynomials.specs.Polynomials.{IsPolynomial, ArePolynomials};
+ghost use Rattle.division_rules.specs.Chains.{EachRow};
 ghost use Rattle.division_rules.specs.Rows.{plain, plains};
-ghost use Rattle.division_rules.specs.Triangular.{AreTriangular};
+ghost use Rattle.division_rules.specs.Triangular.{AreTriangular, HasLessDegree};
 ghost use Rattle.division_rules.specs.Within.{reduction_within};
 ghost use Rattle.pseudo_division.specs.FieldOperations.{operations, first_of};
 
@@ -20,6 +21,7 @@ pub fn reduce(alloc: Global, w: Work, f: &Poly, by: &Polys) -> Result<Option<Pol
     ensures value { IfOk result (λ r. r ≡ first_of
         (reduction_within (operations w.field) w.width (plains by.now) (plain f.now))) }
     ensures over { IfOk result (λ r. IfSome r (IsPolynomial w.field VARS)) }
+    ensures reduced { IfOk result (λ r. IfSome r (λ h. EachRow (HasLessDegree h) (plains by.now))) }
 {
     let row = plain_row(alloc, f)?;
     let rows = plain_rows(alloc, by)?;

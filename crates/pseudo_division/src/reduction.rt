@@ -1,10 +1,11 @@
-ghost use Rattle.std.specs.Prelude.{◌≡◌, ◌<◌, ◌≤◌, ◌-◌, suc, length, IfOk, IfSome};
+ghost use Rattle.std.specs.Prelude.{◌≡◌, ◌<◌, ◌≤◌, ◌-◌, suc, ◌∷◌, length, IfOk, IfSome};
 ghost use Rattle.polynomials.specs.Views.{degree_in, main_var};
 ghost use Rattle.division_rules.specs.Chains.{EachRow};
 ghost use Rattle.division_rules.specs.Lists.{variable_or_zero};
 ghost use Rattle.division_rules.specs.PolynomialRows.{IsPolynomialRow, ArePolynomialRows};
-ghost use Rattle.division_rules.specs.Triangular.{AreTriangular};
+ghost use Rattle.division_rules.specs.Triangular.{AreTriangular, HasLessDegree};
 ghost use Rattle.division_rules.specs.Within.{reduction_within, sparse_remainder_within, sparse_remainder_by_within};
+ghost use Rattle.pseudo_division.specs.Combinations.{IsCombinationWhere};
 ghost use Rattle.pseudo_division.specs.FieldOperations.{operations};
 
 use crate::elimination::eliminate;
@@ -17,6 +18,24 @@ use std::alloc::{AllocError, Global};
 /// The sparse pseudo-remainders of `f` by the rows of `by` in their main variables, the last row
 /// first; `None` where a product on the way doesn't fit the width.
 pub fn reduce_rows(alloc: Global, w: Work, f: &Row, by: &Rows) -> Result<Option<Row>, AllocError>
+    requires row { IsPolynomialRow w.field VARS f.now }
+    requires chain { ArePolynomialRows w.field VARS by.now }
+    requires triangular { AreTriangular by.now }
+    requires cofactors { EachRow (λ t. length t.cofactors ≡ length f.now.cofactors) by.now }
+    ensures value { IfOk result (λ r. r ≡ reduction_within (operations w.field) w.width by.now f.now) }
+    ensures over { IfOk result (λ r. IfSome r (IsPolynomialRow w.field VARS)) }
+    ensures cofactors { IfOk result (λ r. IfSome r (λ h. length h.cofactors ≡ length f.now.cofactors)) }
+    ensures combination { IfOk result (λ r. IfSome r (
+        IsCombinationWhere w.field (f.now ∷ by.now))) }
+    ensures reduced { IfOk result (λ r. IfSome r (λ h. EachRow (HasLessDegree h.first) by.now)) }
+{
+    // Tells that the modulus is prime.
+    let _ = w.field.prime();
+    reduced(alloc, w, f, by)
+}
+
+/// The sparse pseudo-remainders by the rows in turn.
+fn reduced(alloc: Global, w: Work, f: &Row, by: &Rows) -> Result<Option<Row>, AllocError>
     requires row { IsPolynomialRow w.field VARS f.now }
     requires chain { ArePolynomialRows w.field VARS by.now }
     requires triangular { AreTriangular by.now }

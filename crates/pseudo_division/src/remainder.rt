@@ -1,8 +1,9 @@
-ghost use Rattle.std.specs.Prelude.{◌≡◌, ◌<◌, ◌≤◌, ◌↔◌, true, length, IfOk, IfSome, IsTrue};
+ghost use Rattle.std.specs.Prelude.{◌≡◌, ◌<◌, ◌≤◌, ◌↔◌, true, [], ◌∷◌, length, IfOk, IfSome, IsTrue};
 ghost use Rattle.polynomials.specs.Views.{degree_in};
 ghost use Rattle.division_rules.specs.PolynomialRows.{IsPolynomialRow};
 ghost use Rattle.division_rules.specs.Rows.{is_reduced_by};
 ghost use Rattle.division_rules.specs.Within.{pseudo_remainder_within, pseudo_remainder_by_within};
+ghost use Rattle.pseudo_division.specs.Combinations.{IsCombinationWhere};
 ghost use Rattle.pseudo_division.specs.FieldOperations.{operations};
 ghost use Rattle.pseudo_division.specs.Turns.{turn_within};
 
@@ -31,11 +32,37 @@ pub fn prem_full(
     ensures value { IfOk result (λ r. r ≡ pseudo_remainder_within (operations w.field) w.width v f.now g.now) }
     ensures over { IfOk result (λ r. IfSome r (IsPolynomialRow w.field VARS)) }
     ensures cofactors { IfOk result (λ r. IfSome r (λ h. length h.cofactors ≡ length f.now.cofactors)) }
+    ensures combination { IfOk result (λ r. IfSome r (
+        IsCombinationWhere w.field (f.now ∷ g.now ∷ []))) }
+{
+    // Tells that the modulus is prime.
+    let _ = w.field.prime();
+    full_remainder(alloc, &w, f, g, v)
+}
+
+/// The pseudo-remainder, by its turns.
+fn full_remainder(
+    alloc: Global,
+    w: &Work,
+    f: &Row,
+    g: &Row,
+    v: usize,
+) -> Result<Option<Row>, AllocError>
+    requires variable { v < VARS }
+    requires left { IsPolynomialRow w.now.field VARS f.now }
+    requires right { IsPolynomialRow w.now.field VARS g.now }
+    requires degrees { degree_in v g.now.first ≤ degree_in v f.now.first }
+    requires occurs { 1 ≤ degree_in v g.now.first }
+    requires cofactors { length f.now.cofactors ≡ length g.now.cofactors }
+    ensures value { IfOk result (λ r. r ≡ pseudo_remainder_within
+        (operations w.now.field) w.now.width v f.now g.now) }
+    ensures over { IfOk result (λ r. IfSome r (IsPolynomialRow w.now.field VARS)) }
+    ensures cofactors { IfOk result (λ r. IfSome r (λ h. length h.cofactors ≡ length f.now.cofactors)) }
 {
     let further = f.first.degree_in(v) - g.first.degree_in(v);
-    match turn(alloc, &w, f, g, v)? {
+    match turn(alloc, w, f, g, v)? {
         None => Ok(None),
-        Some(row) => turned(alloc, &w, row, g, v, further),
+        Some(row) => turned(alloc, w, row, g, v, further),
     }
 }
 

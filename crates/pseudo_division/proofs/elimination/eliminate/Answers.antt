@@ -4,6 +4,7 @@ use Rattle.mono_words.specs.declared.mono.TheConstants.{VARS}
 use Rattle.division_rules.specs.Within.{cross_within, cross_all_within}
 use Rattle.division_rules.proofs.CanonicalRowsWithin.{IsPolynomialRow-elimination_within}
 use Rattle.pseudo_division.specs.FieldOperations.{operations}
+use Rattle.pseudo_division.proofs.CombinationResults.{holds_elimination}
 use Rattle.pseudo_division.proofs.RowParts.{row_without_first, row_without_cofactors, row_with_both, elimination_within-parts}
 use Rattle.pseudo_division.proofs.elimination.eliminate.Goals as goal
 
@@ -30,3 +31,6 @@ returns-clause-value c =
 pub returns-clause-over : goal.returns-clause-over
 returns-clause-over c =
     IsPolynomialRow-elimination_within c.args.w.field VARS c.prime.ensures.least c.args.w.width c.args.v c.args.f.now c.args.g.now (record { first = c.in-Some.first; cofactors = c.in-Some-2.cofactors }) c.requires.left c.requires.right (sym (returns-clause-value c))
+
+pub returns-clause-combination : goal.returns-clause-combination
+returns-clause-combination c = λ gs are each. holds_elimination c.args.w.field VARS c.prime.ensures.prime gs are c.args.w.width c.args.v c.args.f.now c.args.g.now (record { first = c.in-Some.first; cofactors = c.in-Some-2.cofactors }) c.requires.left c.requires.right each.0 each.1.0 (sym (returns-clause-value c))

@@ -4,7 +4,7 @@ use Rattle.mono_words.specs.declared.mono.TheConstants.{VARS}
 use Rattle.division_rules.specs.PolynomialRows.{IsPolynomialRow}
 use Rattle.division_rules.specs.Within.{reduction_within}
 use Rattle.pseudo_division.specs.FieldOperations.{operations}
-use Rattle.pseudo_division.proofs.reduction.reduce_rows.Given as goal
+use Rattle.pseudo_division.proofs.reduction.reduced.Given as goal
 
 abbrev pub invariant-loop-i : goal.invariant-loop-i
 invariant-loop-i l =
