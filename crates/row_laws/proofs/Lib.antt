@@ -13,3 +13,4 @@ pub mod FallingRows
 pub mod ScaledSteps
 pub mod ScaledReductions
 pub mod Members
+pub mod CommonZeros

@@ -3,7 +3,7 @@ ghost use Rattle.row_laws.specs.Values.{DivisionsMultiplyValues, ReductionsMulti
 ghost use Rattle.row_laws.specs.Degrees.{RemaindersHaveLessDegree, DivisionsKeepDegrees, ReductionsKeepDegrees, ReducedStaysSame, ReducedByMore, RemainderRowsFall, RemainderRowsAreFree};
 ghost use Rattle.row_laws.specs.Members.{MembersArePlaced, MembersStartRemainderRows, PointsAtMembers};
 ghost use Rattle.row_laws.specs.Scaling.{ReductionsOfMultiples, MonicReducesAlike};
-ghost use Rattle.row_laws.specs.Vanishing.{RemainderRowsVanish};
+ghost use Rattle.row_laws.specs.Vanishing.{RemainderRowsVanish, RemainderRowsEndInCommonZero};
 
 /// Rows stay combinations of their generators through each step of division.
 pub fn combinations_are_kept()
@@ -103,4 +103,9 @@ pub fn members_start_remainder_rows()
 /// A point of a quasi-component, at a member and below it.
 pub fn points_at_members()
     ensures { PointsAtMembers }
+{}
+
+/// Where no lead is zero, remainder rows end with a common zero.
+pub fn remainder_rows_end_in_common_zero()
+    ensures { RemainderRowsEndInCommonZero }
 {}
