@@ -14,3 +14,4 @@ pub mod ScaledSteps
 pub mod ScaledReductions
 pub mod Members
 pub mod CommonZeros
+pub mod ComposedRows

@@ -1,4 +1,4 @@
-ghost use Rattle.row_laws.specs.Combinations.{CombinationsAreKept};
+ghost use Rattle.row_laws.specs.Combinations.{CombinationsAreKept, ComposedRowsAreCombinations};
 ghost use Rattle.row_laws.specs.Values.{DivisionsMultiplyValues, ReductionsMultiplyValues, ReductionsKeepZeros, ReductionsHaveSameZeros, ReducedToZeroVanishes, CombinationsKeepZeros};
 ghost use Rattle.row_laws.specs.Degrees.{RemaindersHaveLessDegree, DivisionsKeepDegrees, ReductionsKeepDegrees, ReducedStaysSame, ReducedByMore, RemainderRowsFall, RemainderRowsAreFree};
 ghost use Rattle.row_laws.specs.Members.{MembersArePlaced, MembersStartRemainderRows, PointsAtMembers};
@@ -108,4 +108,9 @@ pub fn points_at_members()
 /// Where no lead is zero, remainder rows end with a common zero.
 pub fn remainder_rows_end_in_common_zero()
     ensures { RemainderRowsEndInCommonZero }
+{}
+
+/// A multiple of a row, with a combination of its generators added, is a combination of them.
+pub fn composed_rows_are_combinations()
+    ensures { ComposedRowsAreCombinations }
 {}
