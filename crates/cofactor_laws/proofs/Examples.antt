@@ -1,10 +1,14 @@
 -- The steps of first cofactors, tried by computation on four sequences of remainder rows.
-use Rattle.std.proofs.Common.{◌≡◌, List, [], ◌∷◌, Some, None, inl, refl}
+use Rattle.std.proofs.Common.{◌≡◌, ◌≢◌, ℕ, zero, suc, ◌%◌, ◌<◌, List, [], ◌∷◌, Some, None, inl, refl, subst, arith}
 use Rattle.polynomials.specs.Polynomials.{Polynomial, term}
+use Rattle.polynomials.specs.Views.{degree_in}
+use Rattle.polynomials.specs.Primes.{IsPrime}
 use Rattle.division_rules.specs.Lists.{list_operations}
 use Rattle.division_rules.specs.Rows.{Row}
 use Rattle.division_rules.specs.Cofactors.{AreCofactorSteps}
-use Rattle.cofactor_laws.specs.RowsWithCofactors.{row_of_c, row_of_t, rows_of_chain, rows_with_cofactors}
+use Rattle.division_rules.proofs.Identity.{some_same}
+use Rattle.cofactor_laws.specs.RowsWithCofactors.{row_of_c, row_of_t, rows_of_chain, rows_with_cofactors, EndWithZeroRow}
+use Rattle.cofactor_laws.specs.TriangularSets.{LacksMainAbove}
 
 abbrev row : Polynomial → List Polynomial → Row Polynomial
 row f cs = record { first = f; cofactors = cs }
@@ -87,3 +91,36 @@ multiplied_rows = refl
 
 multiplied_steps : AreCofactorSteps (list_operations 5 3) 100 2 (rows_of_chain 5 3 multiplied_chain) 2 None (row_of_t 3 multiplied_t multiplied_chain) (row_of_c 3 multiplied_c multiplied_chain) [] (Some multiplied_zero)
 multiplied_steps = (record { degrees = refl; factors = (term (1 ∷ 0 ∷ 0 ∷ []) 1 ∷ []) ∷ []; initials = (inl refl, tt); leads = refl }, refl)
+
+five_is_prime : IsPrime 5
+five_is_prime = record { many = omega arith; no_divisor = none }
+  where
+    none : (d : ℕ) → 1 < d → d < 5 → 5 % d ≢ 0
+    none zero more less = omega arith
+    none (suc zero) more less = omega arith
+    none (suc (suc zero)) more less = λ e. cc
+    none (suc (suc (suc zero))) more less = λ e. cc
+    none (suc (suc (suc (suc zero)))) more less = λ e. cc
+    none (suc (suc (suc (suc (suc d))))) more less = absurd (omega arith)
+
+-- a b + 3 is below x, and reduces 4 a x + 4, in which its main variable b doesn't occur
+multiplied_ends : EndWithZeroRow 5 3 100 2 multiplied_c multiplied_t multiplied_chain multiplied_zero
+multiplied_ends = record {
+  prime = five_is_prime;
+  canonical = ((refl, omega arith, omega arith, refl, (refl, omega arith, omega arith, tt, tt)), ((refl, omega arith, omega arith, refl, (refl, omega arith, omega arith, tt, tt)), ((refl, omega arith, omega arith, refl, (refl, omega arith, omega arith, tt, tt)), tt)));
+  start = record {
+    triangular = (1, refl, omega arith, tt);
+    below = (refl, tt);
+    reduced = ((λ v is. subst (λ u. degree_in u multiplied_c < degree_in u (term (1 ∷ 1 ∷ 0 ∷ []) 1 ∷ term (0 ∷ 0 ∷ 0 ∷ []) 3 ∷ [])) (some_same 1 v is) (omega arith)), tt);
+    occurs = omega arith;
+    falls = omega arith;
+  };
+  last = refl;
+}
+
+-- and so it is at 4 a x^2 + 3 b in the triangular set of both
+multiplied_lacks : LacksMainAbove 2 multiplied_c (multiplied_t ∷ [])
+multiplied_lacks = ((λ u is less. absurd (no_less u (some_same 2 u is) less)), tt)
+  where
+    no_less : (u : ℕ) → 2 ≡ u → 2 < u → ⊥
+    no_less u same less = omega (arith, same, less)
