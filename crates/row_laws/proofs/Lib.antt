@@ -15,3 +15,5 @@ pub mod ScaledReductions
 pub mod Members
 pub mod CommonZeros
 pub mod ComposedRows
+pub mod ScaledDivisors
+pub mod MonicChains
