@@ -1,10 +1,17 @@
--- The steps of first cofactors, tried by computation on four sequences of remainder rows.
-use Rattle.std.proofs.Common.{◌≡◌, List, [], ◌∷◌, Some, None, inl, refl}
+-- The steps of first cofactors, tried by computation on five sequences of remainder rows.
+use Rattle.std.proofs.Common.{◌≡◌, ◌≢◌, ℕ, zero, suc, ◌%◌, ◌<◌, List, [], ◌∷◌, ◌++◌, Any, Some, None, inl, refl, subst, arith}
 use Rattle.polynomials.specs.Polynomials.{Polynomial, term}
+use Rattle.polynomials.specs.Views.{degree_in}
+use Rattle.polynomials.specs.Primes.{IsPrime}
+use Rattle.zero_sets.specs.Domains.{value_at}
+use Rattle.zero_sets.proofs.PrimeFields.{residue_tables}
 use Rattle.division_rules.specs.Lists.{list_operations}
 use Rattle.division_rules.specs.Rows.{Row}
-use Rattle.division_rules.specs.Cofactors.{AreCofactorSteps}
-use Rattle.cofactor_laws.specs.RowsWithCofactors.{row_of_c, row_of_t, rows_of_chain, rows_with_cofactors}
+use Rattle.division_rules.specs.Cofactors.{first_cofactor, AreCofactorSteps}
+use Rattle.division_rules.proofs.Identity.{some_same}
+use Rattle.row_laws.specs.Words.{reduction_of}
+use Rattle.cofactor_laws.specs.RowsWithCofactors.{leads_from_c, row_of_c, row_of_t, rows_of_chain, rows_with_cofactors, EndWithZeroRow}
+use Rattle.cofactor_laws.specs.TriangularSets.{LacksMainAbove}
 
 abbrev row : Polynomial → List Polynomial → Row Polynomial
 row f cs = record { first = f; cofactors = cs }
@@ -87,3 +94,65 @@ multiplied_rows = refl
 
 multiplied_steps : AreCofactorSteps (list_operations 5 3) 100 2 (rows_of_chain 5 3 multiplied_chain) 2 None (row_of_t 3 multiplied_t multiplied_chain) (row_of_c 3 multiplied_c multiplied_chain) [] (Some multiplied_zero)
 multiplied_steps = (record { degrees = refl; factors = (term (1 ∷ 0 ∷ 0 ∷ []) 1 ∷ []) ∷ []; initials = (inl refl, tt); leads = refl }, refl)
+
+five_is_prime : IsPrime 5
+five_is_prime = record { many = omega arith; no_divisor = none }
+  where
+    none : (d : ℕ) → 1 < d → d < 5 → 5 % d ≢ 0
+    none zero more less = omega arith
+    none (suc zero) more less = omega arith
+    none (suc (suc zero)) more less = λ e. cc
+    none (suc (suc (suc zero))) more less = λ e. cc
+    none (suc (suc (suc (suc zero)))) more less = λ e. cc
+    none (suc (suc (suc (suc (suc d))))) more less = absurd (omega arith)
+
+-- a b + 3 is below x, and reduces 4 a x + 4, in which its main variable b doesn't occur
+multiplied_ends : EndWithZeroRow 5 3 100 2 multiplied_c multiplied_t multiplied_chain multiplied_zero
+multiplied_ends = record {
+  prime = five_is_prime;
+  canonical = ((refl, omega arith, omega arith, refl, (refl, omega arith, omega arith, tt, tt)), ((refl, omega arith, omega arith, refl, (refl, omega arith, omega arith, tt, tt)), ((refl, omega arith, omega arith, refl, (refl, omega arith, omega arith, tt, tt)), tt)));
+  start = record {
+    triangular = (1, refl, omega arith, tt);
+    below = (refl, tt);
+    reduced = ((λ v is. subst (λ u. degree_in u multiplied_c < degree_in u (term (1 ∷ 1 ∷ 0 ∷ []) 1 ∷ term (0 ∷ 0 ∷ 0 ∷ []) 3 ∷ [])) (some_same 1 v is) (omega arith)), tt);
+    occurs = omega arith;
+    falls = omega arith;
+  };
+  last = refl;
+}
+
+-- and so it is at 4 a x^2 + 3 b in the triangular set of both
+multiplied_lacks : LacksMainAbove 2 multiplied_c (multiplied_t ∷ [])
+multiplied_lacks = ((λ u is less. absurd (no_less u (some_same 2 u is) less)), tt)
+  where
+    no_less : (u : ℕ) → 2 ≡ u → 2 < u → ⊥
+    no_less u same less = omega (arith, same, less)
+
+-- modulo 5 in x < y: y^3 + 4 y^2 and x y^2 + y + 4 below x^2, with a cofactor that reduces to 0
+abbrev vanishing_t : Polynomial
+vanishing_t = term (0 ∷ 3 ∷ []) 1 ∷ term (0 ∷ 2 ∷ []) 4 ∷ []
+
+abbrev vanishing_c : Polynomial
+vanishing_c = term (1 ∷ 2 ∷ []) 1 ∷ term (0 ∷ 1 ∷ []) 1 ∷ term (0 ∷ 0 ∷ []) 4 ∷ []
+
+abbrev vanishing_chain : List Polynomial
+vanishing_chain = (term (2 ∷ 0 ∷ []) 1 ∷ []) ∷ []
+
+abbrev vanishing_row_two : Row Polynomial
+vanishing_row_two = row (term (1 ∷ 1 ∷ []) 2 ∷ term (0 ∷ 1 ∷ []) 1 ∷ term (1 ∷ 0 ∷ []) 4 ∷ term (0 ∷ 0 ∷ []) 4 ∷ []) ((term (1 ∷ 1 ∷ []) 4 ∷ term (1 ∷ 0 ∷ []) 1 ∷ term (0 ∷ 0 ∷ []) 1 ∷ []) ∷ (term (2 ∷ 0 ∷ []) 1 ∷ []) ∷ [] ∷ [])
+
+abbrev vanishing_zero : Row Polynomial
+vanishing_zero = row [] ((term (3 ∷ 2 ∷ []) 2 ∷ term (2 ∷ 2 ∷ []) 1 ∷ term (3 ∷ 1 ∷ []) 4 ∷ term (3 ∷ 0 ∷ []) 4 ∷ []) ∷ (term (4 ∷ 1 ∷ []) 3 ∷ term (3 ∷ 1 ∷ []) 4 ∷ term (4 ∷ 0 ∷ []) 4 ∷ term (3 ∷ 0 ∷ []) 2 ∷ term (2 ∷ 0 ∷ []) 4 ∷ []) ∷ (term (1 ∷ 0 ∷ []) 4 ∷ []) ∷ [])
+
+vanishing_rows : rows_with_cofactors 5 2 100 1 vanishing_c vanishing_t vanishing_chain ≡ record { later = vanishing_row_two ∷ []; last = Some vanishing_zero }
+vanishing_rows = refl
+
+vanishing_steps : AreCofactorSteps (list_operations 5 2) 100 1 (rows_of_chain 5 2 vanishing_chain) 3 None (row_of_t 2 vanishing_t vanishing_chain) (row_of_c 2 vanishing_c vanishing_chain) (vanishing_row_two ∷ []) (Some vanishing_zero)
+vanishing_steps = (record { degrees = refl; factors = []; initials = tt; leads = refl }, (record { degrees = refl; factors = (term (0 ∷ 0 ∷ []) 1 ∷ []) ∷ []; initials = (inl refl, tt); leads = refl }, refl))
+
+vanishing_reduces : reduction_of 5 2 (vanishing_chain ++ vanishing_t ∷ []) (first_cofactor (list_operations 5 2) vanishing_zero) ≡ []
+vanishing_reduces = refl
+
+-- at x = 0 and y = 1, where x^2 and y^3 + 4 y^2 are zero, the lead x is
+vanishing_lead : Any (λ l. value_at (residue_tables 5) (0 ∷ 1 ∷ []) l ≡ 0) (leads_from_c 5 2 100 1 vanishing_c vanishing_t vanishing_chain)
+vanishing_lead = (0, term (1 ∷ 0 ∷ []) 1 ∷ [], omega arith, refl, refl)

@@ -5,3 +5,4 @@ pub mod CofactorRows
 pub mod LeadPoints
 pub mod ReducedCofactors
 pub mod ZeroRows
+pub mod SetZeros

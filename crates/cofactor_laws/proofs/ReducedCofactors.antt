@@ -21,6 +21,7 @@ use Rattle.division_rules.proofs.FreeNonzero.{one_free_nonzero}
 use Rattle.division_rules.proofs.ListLaws.{free_above_main}
 use Rattle.division_rules.proofs.PolynomialSetting.{polynomial_setting}
 use Rattle.division_rules.proofs.Up.{down_canonical, down_all_canonical}
+use Rattle.division_rules.proofs.Identity.{some_same}
 use Rattle.row_laws.specs.Words.{first_entries, reduction_of, AreBelow, IsReducedBy, StartRemainderRows}
 use Rattle.row_laws.specs.Degrees.{AreFreeOf, IsRowFreeOf}
 use Rattle.row_laws.proofs.FallingRows.{remainder_rows_fall, remainder_rows_are_free}
@@ -35,10 +36,6 @@ use Rattle.cofactor_laws.proofs.DownSteps.{terms-first_cofactor}
 use Rattle.cofactor_laws.proofs.GeneratorLists.{canonical_chain, plain_rows_are, up-plains, second, first, chain_units, down-second, down-first, down-chain_units}
 use Rattle.cofactor_laws.proofs.LeadPoints.{zero_row_above, lead_shows_lead, reduction_shows_lead}
 
--- what is there is the same
-same_there : {X : Type 0} (x y : X) → Some x ≡ Some y → x ≡ y
-same_there x y e = cc
-
 -- lists that follow one another are canonical
 ArePolynomials-append : (p n : ℕ) (fs gs : List Polynomial) → ArePolynomials p n fs → ArePolynomials p n gs → ArePolynomials p n (fs ++ gs)
 ArePolynomials-append p n [] gs f g = g
@@ -50,8 +47,8 @@ last_occurs p n v g [] z falls = falls.0
 last_occurs p n v g (h ∷ later) z falls = last_occurs p n v h later z falls.2
 
 -- behind t main variables are greater than that of t
-main_variables_behind : (u v : ℕ) (chain more : List Polynomial) (t : Polynomial) → main_var t ≡ Some v → IsTriangularFrom u (chain ++ t ∷ more) → IsTriangularFrom (suc v) more
-main_variables_behind u v [] more t main (m, is, up_to, later) = subst (λ x. IsTriangularFrom (suc x) more) (same_there m v (sym is ∙ main)) later
+pub main_variables_behind : (u v : ℕ) (chain more : List Polynomial) (t : Polynomial) → main_var t ≡ Some v → IsTriangularFrom u (chain ++ t ∷ more) → IsTriangularFrom (suc v) more
+main_variables_behind u v [] more t main (m, is, up_to, later) = subst (λ x. IsTriangularFrom (suc x) more) (some_same m v (sym is ∙ main)) later
 main_variables_behind u v (s ∷ chain) more t main (m, is, up_to, later) = main_variables_behind (suc m) v chain more t main later
 
 -- no polynomial with a lesser main variable has x
@@ -114,13 +111,13 @@ module _ (p n w v : ℕ) (c t : Polynomial) (chain : List Polynomial) (z : Row P
     where
       by_s : HasLessDegree a (plain s)
       by_s x is_x =
-          let greater : v < x = subst (λ y. v < y) (same_there m x (sym is ∙ is_x)) (omega (arith, less, up_to)) in
+          let greater : v < x = subst (λ y. v < y) (some_same m x (sym is ∙ is_x)) (omega (arith, less, up_to)) in
           let none : degree_in x a ≡ 0 = lacks_greater x greater main (subst (λ o. LacksVariable o c) is_x free.0) in
           let some : 0 < degree_in x s = degree_in_main_var x s is_x in
           omega (arith, none, some)
 
   pub reduced_from_t : (more : List Polynomial) → StandsInTriangular p n v c t chain more → IsReducedBy a (t ∷ more)
-  reduced_from_t more stands = ((λ x is. subst (λ y. degree_in y a < degree_in y t) (same_there v x (sym stands.main ∙ is)) less_than_t), reduced_behind (suc v) more (omega arith) stands.main (main_variables_behind 0 v chain more t stands.main stands.triangular) stands.free)
+  reduced_from_t more stands = ((λ x is. subst (λ y. degree_in y a < degree_in y t) (some_same v x (sym stands.main ∙ is)) less_than_t), reduced_behind (suc v) more (omega arith) stands.main (main_variables_behind 0 v chain more t stands.main stands.triangular) stands.free)
 
 -- the laws
 pub cofactor_lead_is_zero_by_leads : CofactorLeadIsZeroByLeads

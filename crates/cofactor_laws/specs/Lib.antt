@@ -1,2 +1,3 @@
 pub mod RowsWithCofactors
 pub mod Laws
+pub mod TriangularSets

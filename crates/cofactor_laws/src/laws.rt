@@ -1,4 +1,5 @@
 ghost use Rattle.cofactor_laws.specs.Laws.{RowsWithCofactorsAreCombinations, CofactorsGrowByFalls, LastCofactorHasDegree, CofactorLeadIsZeroByLeads, ReducedCofactorShowsLead, ZeroRowSplitsZeros};
+ghost use Rattle.cofactor_laws.specs.TriangularSets.{ZeroRowsShowZeros};
 
 /// Remainder rows with cofactors are combinations of the polynomials that they are made of.
 pub fn rows_with_cofactors_are_combinations()
@@ -28,4 +29,9 @@ pub fn reduced_cofactor_shows_lead()
 /// Where the other generators vanish, the zero row's first cofactor does, or the first generator.
 pub fn zero_row_splits_zeros()
     ensures { ZeroRowSplitsZeros }
+{}
+
+/// What a zero row at a polynomial of a triangular set says about points of the quasi-component.
+pub fn zero_rows_show_zeros()
+    ensures { ZeroRowsShowZeros }
 {}

@@ -56,7 +56,7 @@ module _ (p n : ℕ) (prime : IsPrime p) where
 
   module _ (gs : List Polynomial) (are_gs : ArePolynomials p n gs) where
     -- the generators
-    abbrev generators : List (CanonicalPolynomial p n)
+    abbrev pub generators : List (CanonicalPolynomial p n)
     generators = up_all p n prime.many gs are_gs
 
     -- a combination of lists of terms is one of canonical polynomials

@@ -5,6 +5,7 @@ use Rattle.polynomials.specs.Polynomials.{Polynomial, term, scaled}
 use Rattle.polynomials.specs.Views.{degree_in}
 use Rattle.zero_sets.proofs.PrimeFields.{residue_tables}
 use Rattle.division_rules.specs.Rows.{Row, plain}
+use Rattle.division_rules.proofs.Identity.{some_same}
 use Rattle.row_laws.specs.Words.{first_entries, reduction_of, StartRemainderRows}
 use Rattle.row_laws.specs.Combinations.{IsRowOver}
 use Rattle.row_laws.specs.Values.{IsMultipleByInitials}
@@ -56,9 +57,6 @@ multiplied = (a ∷ a ∷ [], All-cons (Contains (a ∷ [])) a (a ∷ []) first 
     first : Contains (a ∷ []) a
     first = Contains-first a a [] refl
 
-same_there : {X : Type 0} (y z : X) → Some y ≡ Some z → y ≡ z
-same_there y z e = cc
-
 -- 4 a x^2 + 3 b and a x + 4 start remainder rows in x below a b + 3
 abbrev line : Polynomial
 line = term (1 ∷ 0 ∷ 1 ∷ []) 1 ∷ four
@@ -73,7 +71,7 @@ start = record {
 }
   where
     less : (v : ℕ) → Some 1 ≡ Some v → degree_in v line < degree_in v hyperbola
-    less v is = subst (λ u. degree_in u line < degree_in u hyperbola) (same_there 1 v is) (omega arith)
+    less v is = subst (λ u. degree_in u line < degree_in u hyperbola) (some_same 1 v is) (omega arith)
 
 -- b x over b and x, with the cofactors x and 0
 abbrev product_row : Row Polynomial

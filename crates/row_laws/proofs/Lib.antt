@@ -13,3 +13,7 @@ pub mod FallingRows
 pub mod ScaledSteps
 pub mod ScaledReductions
 pub mod Members
+pub mod CommonZeros
+pub mod ComposedRows
+pub mod ScaledDivisors
+pub mod MonicChains

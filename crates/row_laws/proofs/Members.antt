@@ -8,12 +8,9 @@ use Rattle.zero_sets.specs.ZeroSets.{InZeroSet, AreNonZero, IsTriangularFrom, is
 use Rattle.zero_sets.proofs.CertificateLemmas.{InZeroSet-members_below}
 use Rattle.division_rules.specs.Rows.{plain}
 use Rattle.division_rules.specs.Triangular.{HasLessDegree}
+use Rattle.division_rules.proofs.Identity.{some_same}
 use Rattle.row_laws.specs.Words.{AreBelow, IsReducedBy}
 use Rattle.row_laws.specs.Members.{IsMember, MembersArePlaced, MembersStartRemainderRows, PointsAtMembers}
-
--- what is there is the same
-same_there : {X : Type 0} (x y : X) → Some x ≡ Some y → x ≡ y
-same_there x y e = cc
 
 -- main variables from a greater one on are such from a lesser one on
 pub triangular_from_less : (u v : ℕ) (chain : List Polynomial) → u ≤ v → IsTriangularFrom v chain → IsTriangularFrom u chain
@@ -41,9 +38,9 @@ placed v u (s ∷ chain) t (m, main, up_to, later) there = go (is_variable v (ma
   where
     go : (b : Bool) → is_variable v (main_var s) ≡ b → elim b [ true ↦ Some s | false ↦ member_in v chain ] ≡ Some t → (member_in v chain ≡ Some t → IsMember v chain t) → IsMember v (s ∷ chain) t
     go true e found further = record {
-      main = ap main_var (sym (same_there s t found)) ∙ main ∙ ap Some same;
+      main = ap main_var (sym (some_same s t found)) ∙ main ∙ ap Some same;
       more = chain;
-      parts = ap (λ x. x ∷ chain) (same_there s t found) ∙ ap (λ xs. xs ++ t ∷ chain) (sym (ap (λ b. elim b [ true ↦ s ∷ members_below v chain | false ↦ members_below v chain ]) (ap (is_variable_below v) main ∙ le-ltb m v (omega (arith, same))) ∙ none_below v (suc m) chain (omega (arith, same)) later));
+      parts = ap (λ x. x ∷ chain) (some_same s t found) ∙ ap (λ xs. xs ++ t ∷ chain) (sym (ap (λ b. elim b [ true ↦ s ∷ members_below v chain | false ↦ members_below v chain ]) (ap (is_variable_below v) main ∙ le-ltb m v (omega (arith, same))) ∙ none_below v (suc m) chain (omega (arith, same)) later));
     }
       where
         same : m ≡ v
@@ -94,7 +91,7 @@ module _ (v : ℕ) where
   member_reduces c (s ∷ chain) t h there = go (is_variable v (main_var s)) there (member_reduces c chain t h.1)
     where
       go : (b : Bool) → elim b [ true ↦ Some s | false ↦ member_in v chain ] ≡ Some t → (member_in v chain ≡ Some t → HasLessDegree c (plain t)) → HasLessDegree c (plain t)
-      go true found further = subst (λ x. HasLessDegree c (plain x)) (same_there s t found) h.0
+      go true found further = subst (λ x. HasLessDegree c (plain x)) (some_same s t found) h.0
       go false found further = further found
 
   module _ (r : Tables) (xs : List ℕ) where
@@ -113,7 +110,7 @@ module _ (v : ℕ) where
     member_at (s ∷ chain) t zeros others there = go (is_variable v (main_var s)) there (member_at chain t zeros.1 others.1)
       where
         go : (b : Bool) → elim b [ true ↦ Some s | false ↦ member_in v chain ] ≡ Some t → (member_in v chain ≡ Some t → (value_at r xs t ≡ r.nil) × (value_at r xs (initial_of t) ≢ r.nil)) → (value_at r xs t ≡ r.nil) × (value_at r xs (initial_of t) ≢ r.nil)
-        go true found further = subst (λ x. (value_at r xs x ≡ r.nil) × (value_at r xs (initial_of x) ≢ r.nil)) (same_there s t found) (zeros.0, others.0)
+        go true found further = subst (λ x. (value_at r xs x ≡ r.nil) × (value_at r xs (initial_of x) ≢ r.nil)) (some_same s t found) (zeros.0, others.0)
         go false found further = further found
 
 -- the laws

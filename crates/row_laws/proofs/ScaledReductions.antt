@@ -32,7 +32,7 @@ reductions_of_multiples p n k chain f prime positive small are i = ap (reduction
     as_product g j = constant_of-product_of p n k g prime positive small j
 
 -- the inverse isn't 0
-inverse_positive : (p a : ℕ) → IsPrime p → 0 < a → a < p → 0 < inverse_of p a
+pub inverse_positive : (p a : ℕ) → IsPrime p → 0 < a → a < p → 0 < inverse_of p a
 inverse_positive p a prime positive below = go (inverse_of p a) (inverse_of_is p a prime positive below).1
   where
     go : (b : ℕ) → a * b % p ≡ 1 → 0 < b

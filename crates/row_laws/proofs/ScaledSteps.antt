@@ -23,7 +23,7 @@ module _ {A : Type 0} (P : ViewedRing A) (u : A) (some : u ≢ P.ring.nil) (free
       go false false e d = refl
 
   -- and degrees
-  degree-scaled : (v : ℕ) (f : A) → degree v (u ⊗ f) ≡ degree v f
+  pub degree-scaled : (v : ℕ) (f : A) → degree v (u ⊗ f) ≡ degree v f
   degree-scaled v f = go (nil_or_not P f)
     where
       go : (f ≡ nil) ⊎ (f ≢ nil) → degree v (u ⊗ f) ≡ degree v f
@@ -31,7 +31,7 @@ module _ {A : Type 0} (P : ViewedRing A) (u : A) (some : u ≢ P.ring.nil) (free
       go (inr other) = degree_is P v (degree v f) (u ⊗ f) (under-scale P v (suc (degree v f)) u f (free v) (P.laws.degree-under v f)) (λ e. product_not_nil P u (coefficient v (degree v f) f) some (P.laws.degree-top v f other) (sym (P.laws.coefficient-scale v (degree v f) u f (free v)) ∙ e))
 
   -- it goes out of leads
-  lead-scaled : (v : ℕ) (f : A) → lead (operations P) v (u ⊗ f) ≡ u ⊗ lead (operations P) v f
+  pub lead-scaled : (v : ℕ) (f : A) → lead (operations P) v (u ⊗ f) ≡ u ⊗ lead (operations P) v f
   lead-scaled v f = ap (λ d. coefficient v d (u ⊗ f)) (degree-scaled v f) ∙ P.laws.coefficient-scale v (degree v f) u f (free v)
 
   shifted_lead-scaled : (v : ℕ) (f g : A) → shifted_lead (operations P) v (u ⊗ f) g ≡ u ⊗ shifted_lead (operations P) v f g
@@ -68,7 +68,7 @@ module _ {A : Type 0} (P : ViewedRing A) (u : A) (some : u ≢ P.ring.nil) (free
       go true = first
       go false = second
 
-  sparse_remainder_by-scaled : (v : ℕ) (g : Row A) (k : ℕ) (f : Row A) → sparse_remainder_by (operations P) v g k (times_row (operations P) u f) ≡ times_row (operations P) u (sparse_remainder_by (operations P) v g k f)
+  pub sparse_remainder_by-scaled : (v : ℕ) (g : Row A) (k : ℕ) (f : Row A) → sparse_remainder_by (operations P) v g k (times_row (operations P) u f) ≡ times_row (operations P) u (sparse_remainder_by (operations P) v g k f)
   sparse_remainder_by-scaled v g zero f = refl
   sparse_remainder_by-scaled v g (suc k) f = choice-scaled (is_reduced_by (operations P) v g (times_row (operations P) u f)) (is_reduced_by (operations P) v g f) (times_row (operations P) u f) (sparse_remainder_by (operations P) v g k (elimination (operations P) v (times_row (operations P) u f) g)) f (sparse_remainder_by (operations P) v g k (elimination (operations P) v f g)) (reduced-scaled v g f) refl (ap (sparse_remainder_by (operations P) v g k) (elimination-scaled v f g) ∙ sparse_remainder_by-scaled v g k (elimination (operations P) v f g))
 

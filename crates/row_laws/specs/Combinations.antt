@@ -1,13 +1,13 @@
 -- Rows stay the sums of their cofactors times the generators.
-use Rattle.std.specs.Prelude.{ℕ, List, ◌∷◌}
+use Rattle.std.specs.Prelude.{◌≡◌, ℕ, List, ◌∷◌, length, map}
 use Rattle.polynomials.specs.Primes.{IsPrime}
-use Rattle.polynomials.specs.Polynomials.{Polynomial, ArePolynomials}
+use Rattle.polynomials.specs.Polynomials.{Polynomial, IsPolynomial, ArePolynomials, sum_of, product_of}
 use Rattle.division_rules.specs.Chains.{EachRow, IfRow}
 use Rattle.division_rules.specs.Lists.{list_operations}
 use Rattle.division_rules.specs.PolynomialRows.{IsPolynomialRow}
-use Rattle.division_rules.specs.Rows.{Row, elimination, sparse_remainder, pseudo_remainder, reduction}
+use Rattle.division_rules.specs.Rows.{Row, combined, elimination, sparse_remainder, pseudo_remainder, reduction}
 use Rattle.division_rules.specs.RemainderRows.{remainder_rows}
-use Rattle.division_rules.specs.Units.{IsCombinationOf, unit_rows}
+use Rattle.division_rules.specs.Units.{IsCombinationOf, unit_rows, entrywise_sum}
 use Rattle.row_laws.specs.Words.{first_entries, StartRemainderRows}
 
 -- a row of canonical polynomials that is the combination of its cofactors and the generators
@@ -33,3 +33,14 @@ pub record KeepCombinations (p n : ℕ) (gs : List Polynomial) : Type 0 where
 -- for all canonical generators over a prime field
 abbrev pub CombinationsAreKept : Type 0
 CombinationsAreKept = (p n : ℕ) (gs : List Polynomial) → IsPrime p → ArePolynomials p n gs → KeepCombinations p n gs
+
+-- a times a row, and a combination of the same generators added to it
+abbrev pub composed_row : ℕ → ℕ → List Polynomial → Polynomial → Row Polynomial → List Polynomial → Row Polynomial
+composed_row p n gs a f es = record {
+  first = sum_of p (product_of p a f.first) (combined (list_operations p n) es gs);
+  cofactors = entrywise_sum (list_operations p n) (map (product_of p a) f.cofactors) es;
+}
+
+-- that is such a row again
+abbrev pub ComposedRowsAreCombinations : Type 0
+ComposedRowsAreCombinations = (p n : ℕ) (gs : List Polynomial) (a : Polynomial) (f : Row Polynomial) (es : List Polynomial) → IsPrime p → ArePolynomials p n gs → IsPolynomial p n a → IsRowOver p n gs f → ArePolynomials p n es → length es ≡ length gs → IsRowOver p n gs (composed_row p n gs a f es)

@@ -1,9 +1,9 @@
-ghost use Rattle.row_laws.specs.Combinations.{CombinationsAreKept};
+ghost use Rattle.row_laws.specs.Combinations.{CombinationsAreKept, ComposedRowsAreCombinations};
 ghost use Rattle.row_laws.specs.Values.{DivisionsMultiplyValues, ReductionsMultiplyValues, ReductionsKeepZeros, ReductionsHaveSameZeros, ReducedToZeroVanishes, CombinationsKeepZeros};
 ghost use Rattle.row_laws.specs.Degrees.{RemaindersHaveLessDegree, DivisionsKeepDegrees, ReductionsKeepDegrees, ReducedStaysSame, ReducedByMore, RemainderRowsFall, RemainderRowsAreFree};
 ghost use Rattle.row_laws.specs.Members.{MembersArePlaced, MembersStartRemainderRows, PointsAtMembers};
-ghost use Rattle.row_laws.specs.Scaling.{ReductionsOfMultiples, MonicReducesAlike};
-ghost use Rattle.row_laws.specs.Vanishing.{RemainderRowsVanish};
+ghost use Rattle.row_laws.specs.Scaling.{ReductionsOfMultiples, MonicReducesAlike, MonicChainsReduceAlike};
+ghost use Rattle.row_laws.specs.Vanishing.{RemainderRowsVanish, RemainderRowsEndInCommonZero};
 
 /// Rows stay combinations of their generators through each step of division.
 pub fn combinations_are_kept()
@@ -103,4 +103,19 @@ pub fn members_start_remainder_rows()
 /// A point of a quasi-component, at a member and below it.
 pub fn points_at_members()
     ensures { PointsAtMembers }
+{}
+
+/// Where no lead is zero, remainder rows end with a common zero.
+pub fn remainder_rows_end_in_common_zero()
+    ensures { RemainderRowsEndInCommonZero }
+{}
+
+/// A multiple of a row, with a combination of its generators added, is a combination of them.
+pub fn composed_rows_are_combinations()
+    ensures { ComposedRowsAreCombinations }
+{}
+
+/// A polynomial reduces to 0 exactly where it does by the monic forms of the divisors.
+pub fn monic_chains_reduce_alike()
+    ensures { MonicChainsReduceAlike }
 {}
