@@ -11,6 +11,7 @@ use Rattle.division_rules.specs.Chains.{EachRow, IsFree}
 use Rattle.division_rules.specs.Lists.{list_operations, variable_or_zero}
 use Rattle.division_rules.specs.PolynomialRows.{IsPolynomialRow, ArePolynomialRows}
 use Rattle.division_rules.specs.Rows.{Row, plain, plains, elimination, sparse_remainder, turns, pseudo_remainder}
+use Rattle.division_rules.proofs.Bounds.{eliminated-under}
 use Rattle.division_rules.proofs.CanonicalViews.{canonical_operations}
 use Rattle.division_rules.proofs.Down.{down}
 use Rattle.division_rules.proofs.PolynomialSetting.{polynomial_setting}
@@ -19,7 +20,7 @@ use Rattle.division_rules.proofs.Settings.{ViewedRing}
 use Rattle.division_rules.proofs.Steps.{sparse_remainder-under, pseudo_remainder-under, elimination-other, sparse_remainder_by-keeps, reduction-other}
 use Rattle.division_rules.proofs.Up.{up, up_rows, plains_canonical}
 use Rattle.row_laws.specs.Words.{first_entries}
-use Rattle.row_laws.specs.Degrees.{AreFreeOf, HaveLessDegree, RemaindersHaveLessDegree, KeepDegrees, DivisionsKeepDegrees, ReductionsKeepDegrees}
+use Rattle.row_laws.specs.Degrees.{AreFreeOf, EliminationsLowerDegree, HaveLessDegree, RemaindersHaveLessDegree, KeepDegrees, DivisionsKeepDegrees, ReductionsKeepDegrees}
 use Rattle.row_laws.proofs.Lifts.{lifted-elimination, lifted-sparse_remainder, lifted-pseudo_remainder}
 use Rattle.row_laws.proofs.ReductionValues.{first_entries-plains, chain_rows, reduction_is}
 
@@ -95,6 +96,9 @@ module _ (p n : ℕ) (prime : IsPrime p) where
   free_rows x (t ∷ chain) are free = ((ExponentsBelow-one x t.first).1 free.0, free_rows x chain are.1 free.1)
 
 -- the laws
+pub eliminations_lower_degree : EliminationsLowerDegree
+eliminations_lower_degree p n v f g prime i j occurs at_most = subst (λ h. degree_in v h.first < degree_in v f.first) (lifted-elimination p n prime.many v f g i j) (degree_less v (degree_in v f.first) (elimination (canonical_operations p n prime.many) v (up p n prime.many f i) (up p n prime.many g j)).first.0 occurs (eliminated-under (polynomial_setting p n prime) v (f.first, i.0) (g.first, j.0) at_most))
+
 pub remainders_have_less_degree : RemaindersHaveLessDegree
 remainders_have_less_degree p n v f g prime i j some = have_less_degree p n prime v f g i j some
 

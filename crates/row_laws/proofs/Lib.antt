@@ -17,3 +17,4 @@ pub mod CommonZeros
 pub mod ComposedRows
 pub mod ScaledDivisors
 pub mod MonicChains
+pub mod FirstEntries

@@ -21,6 +21,10 @@ AreFreeOf x (f ∷ fs) = IsFreeOf x f × AreFreeOf x fs
 abbrev pub IsRowFreeOf : ℕ → Row Polynomial → Type 0
 IsRowFreeOf x f = IsFreeOf x f.first × AreFreeOf x f.cofactors
 
+-- an elimination by g, whose degree in v isn't greater than that of f, lowers the degree of f
+abbrev pub EliminationsLowerDegree : Type 0
+EliminationsLowerDegree = (p n v : ℕ) (f g : Row Polynomial) → IsPrime p → IsPolynomialRow p n f → IsPolynomialRow p n g → 0 < degree_in v f.first → degree_in v g.first ≤ degree_in v f.first → degree_in v (elimination (list_operations p n) v f g).first < degree_in v f.first
+
 -- remainders by g in v have less degree in v than g
 pub record HaveLessDegree (p n v : ℕ) (f g : Row Polynomial) : Type 0 where
   pub by_sparse_remainder : degree_in v (sparse_remainder (list_operations p n) v f g).first < degree_in v g.first

@@ -5,3 +5,4 @@ pub mod Vanishing
 pub mod Degrees
 pub mod Scaling
 pub mod Members
+pub mod FirstEntries

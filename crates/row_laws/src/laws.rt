@@ -1,6 +1,7 @@
 ghost use Rattle.row_laws.specs.Combinations.{CombinationsAreKept, ComposedRowsAreCombinations};
 ghost use Rattle.row_laws.specs.Values.{DivisionsMultiplyValues, ReductionsMultiplyValues, ReductionsKeepZeros, ReductionsHaveSameZeros, ReducedToZeroVanishes, CombinationsKeepZeros};
-ghost use Rattle.row_laws.specs.Degrees.{RemaindersHaveLessDegree, DivisionsKeepDegrees, ReductionsKeepDegrees, ReducedStaysSame, ReducedByMore, RemainderRowsFall, RemainderRowsAreFree};
+ghost use Rattle.row_laws.specs.Degrees.{EliminationsLowerDegree, RemaindersHaveLessDegree, DivisionsKeepDegrees, ReductionsKeepDegrees, ReducedStaysSame, ReducedByMore, RemainderRowsFall, RemainderRowsAreFree};
+ghost use Rattle.row_laws.specs.FirstEntries.{FirstEntriesStandAlone};
 ghost use Rattle.row_laws.specs.Members.{MembersArePlaced, MembersStartRemainderRows, PointsAtMembers};
 ghost use Rattle.row_laws.specs.Scaling.{ReductionsOfMultiples, MonicReducesAlike, MonicChainsReduceAlike};
 ghost use Rattle.row_laws.specs.Vanishing.{RemainderRowsVanish, RemainderRowsEndInCommonZero};
@@ -43,6 +44,11 @@ pub fn combinations_keep_zeros()
 /// Where `t`, `c` and the chain are zero, a remainder row is zero as long as no earlier lead is.
 pub fn remainder_rows_vanish()
     ensures { RemainderRowsVanish }
+{}
+
+/// An elimination lowers the degree.
+pub fn eliminations_lower_degree()
+    ensures { EliminationsLowerDegree }
 {}
 
 /// Remainders have less degree than the divisor.
@@ -118,4 +124,9 @@ pub fn composed_rows_are_combinations()
 /// A polynomial reduces to 0 exactly where it does by the monic forms of the divisors.
 pub fn monic_chains_reduce_alike()
     ensures { MonicChainsReduceAlike }
+{}
+
+/// First entries of remainders and reductions don't look at cofactors.
+pub fn first_entries_stand_alone()
+    ensures { FirstEntriesStandAlone }
 {}
