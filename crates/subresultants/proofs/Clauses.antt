@@ -33,9 +33,10 @@ use Rattle.row_laws.proofs.FallingRows.{remainder_rows_fall}
 use Rattle.row_laws.proofs.Lifts.{lifted-remainder_rows}
 use Rattle.row_laws.proofs.VanishingRows.{remainder_rows_vanish}
 use Rattle.subresultants.specs.Outcomes.{with_leads, ended, outcome_after, outcome_of}
-use Rattle.subresultants.specs.Shape.{EachRemainderRow, IfRows, HasFallingDegrees, DegreesFallAlong, IsReducedFromRowOne, HasNonzeroLeads, VanishesBehindLeads, VanishesWithGenerators}
+use Rattle.subresultants.specs.Shape.{EachRemainderRow, IfRows, HasFallingDegrees, DegreesFallAlong, IsReducedFromRowOne, HasNonzeroLeads, IfCoprime, EndsWithItsLead, VanishesBehindLeads, VanishesWithGenerators}
 use Rattle.subresultants.specs.declared.outcome.RemainderRows.{RemainderRows}
 use Rattle.subresultants.proofs.CofactorCounts.{HasCount, count-undivided, count-next_row}
+use Rattle.subresultants.proofs.LastLeads.{length-leads, ends_with_lead}
 use Rattle.subresultants.proofs.Nonzero.{gives_is}
 use Rattle.subresultants.proofs.Starts.{start_canonical}
 
@@ -52,11 +53,6 @@ if_ended P r (Some z) h = h
 falls_ended : (p v : ℕ) (r : RemainderRows) (last : Option (Row Polynomial)) → DegreesFallAlong p v r.rows last → HasFallingDegrees p v (ended r last)
 falls_ended p v r None h = h
 falls_ended p v r (Some z) h = h
-
--- as many leads as rows
-length-leads : (p v : ℕ) (rows : List (Row Polynomial)) → length (leads (operations p) v rows) ≡ length rows
-length-leads p v [] = refl
-length-leads p v (f ∷ rows) = ap suc (length-leads p v rows)
 
 -- leads of what isn't 0
 leads_nonzero : (p v : ℕ) (rows : List (Row Polynomial)) → EachRow (λ f. f.first ≢ []) rows → All (λ l. l ≢ []) (leads (operations p) v rows)
@@ -112,6 +108,18 @@ module _ (p w v : ℕ) (prime : IsPrime p) (chain : List (Row Polynomial)) (are 
       go : (x : Option (Rows Polynomial)) → remainder_rows_within (operations p) w v chain t c ≡ x → HasFallingDegrees p v (outcome_after p v (t ∷ c ∷ []) x)
       go None e = tt
       go (Some rows) e = falls_ended p v (with_leads p v (t ∷ c ∷ rows.later)) rows.last (start.falls, omega (arith, start.falls, start.occurs), subst (λ x. DegreesFall (operations p) v c x.later x.last) (unlimited rows e) (remainder_rows_fall p VARS w v chain t c prime (it, (ic, are)) start).falls)
+
+  -- the last of coprime rows is its own lead
+  pub outcome_last_lead : IfCoprime EndsWithItsLead (outcome_of p w v chain t c)
+  outcome_last_lead = go (remainder_rows_within (operations p) w v chain t c) refl
+    where
+      if_coprime : (later : List (Row Polynomial)) (last : Option (Row Polynomial)) → ArePolynomialRows p VARS later → DegreesFall (operations p) v c later last → IfCoprime EndsWithItsLead (ended (with_leads p v (t ∷ c ∷ later)) last)
+      if_coprime later None each fall = ends_with_lead p v prime t c later (ic, each) fall
+      if_coprime later (Some z) each fall = tt
+
+      go : (x : Option (Rows Polynomial)) → remainder_rows_within (operations p) w v chain t c ≡ x → IfCoprime EndsWithItsLead (outcome_after p v (t ∷ c ∷ []) x)
+      go None e = tt
+      go (Some rows) e = if_coprime rows.later rows.last (AreRemainderRows-remainder_rows_within p VARS prime.many w v chain t c rows are it ic e).0 (subst (λ x. DegreesFall (operations p) v c x.later x.last) (unlimited rows e) (remainder_rows_fall p VARS w v chain t c prime (it, (ic, are)) start).falls)
 
   -- what holds of all rows with their leads, of rows after c that are those without a limit
   by_leads : (Q : RemainderRows → Type 0) → ((rows : Rows Polynomial) → remainder_rows (operations p) w v chain t c ≡ rows → Q (record { rows = t ∷ c ∷ rows.later; leads = leads (operations p) v (c ∷ rows.later) })) → IfRows Q (outcome_of p w v chain t c)

@@ -10,3 +10,4 @@ pub mod Sequences
 pub mod Clauses
 pub mod PolynomialRemainders
 pub mod OneQuotients
+pub mod LastLeads

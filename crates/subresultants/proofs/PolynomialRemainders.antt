@@ -10,6 +10,7 @@ use Rattle.division_rules.specs.Rows.{Row}
 use Rattle.division_rules.specs.Chains.{EachRow}
 use Rattle.division_rules.specs.PolynomialRows.{IsPolynomialRow, ArePolynomialRows}
 use Rattle.division_rules.specs.Units.{IsCombinationOf}
+use Rattle.division_rules.proofs.Steps.{EachRow-map}
 use Rattle.pseudo_division.specs.FieldOperations.{operations}
 use Rattle.row_laws.specs.Words.{first_entries, AreBelow, StartRemainderRows}
 use Rattle.row_laws.specs.Combinations.{IsRowOver}
@@ -17,10 +18,10 @@ use Rattle.row_laws.proofs.CombinationRows.{combinations_are_kept}
 use Rattle.row_laws.proofs.Starts.{variable_below}
 use Rattle.subresultants.specs.Generators.{generator_row, generator_rows}
 use Rattle.subresultants.specs.Outcomes.{outcome_of, remainders_of}
-use Rattle.subresultants.specs.Shape.{EachRemainderRow, IfRows, HasFallingDegrees, IsReducedFromRowOne, HasNonzeroLeads, VanishesWithGenerators}
+use Rattle.subresultants.specs.Shape.{EachRemainderRow, IfRows, HasFallingDegrees, IsReducedFromRowOne, HasNonzeroLeads, IfCoprime, EndsWithItsLead, VanishesWithGenerators}
 use Rattle.subresultants.specs.declared.outcome.Remainders.{Remainders}
 use Rattle.subresultants.specs.declared.outcome.Remainders.TheVariants.{Coprime, Common, TooWide}
-use Rattle.subresultants.proofs.Clauses.{outcome_canonical, outcome_combinations, outcome_counts, outcome_falls, outcome_leads, outcome_reduced, outcome_vanishes}
+use Rattle.subresultants.proofs.Clauses.{outcome_canonical, outcome_combinations, outcome_counts, outcome_falls, outcome_last_lead, outcome_leads, outcome_reduced, outcome_vanishes}
 use Rattle.subresultants.proofs.GeneratorRows.{generator_row-first, generator_rows-entries, cofactor_count, generator_row-count, generator_rows-count, generator_row-canonical, generator_rows-canonical}
 
 -- what holds of x holds of what is x, where there is no error
@@ -30,17 +31,9 @@ if_ok P x (Err e) h i = tt
 
 -- what follows for a row follows for each
 EachRemainderRow-map : (P Q : Row Polynomial → Type 0) → ((f : Row Polynomial) → P f → Q f) → (r : Remainders) → EachRemainderRow P r → EachRemainderRow Q r
-EachRemainderRow-map P Q map (Coprime r) h = go r.rows h
-  where
-    go : (rows : List (Row Polynomial)) → EachRow P rows → EachRow Q rows
-    go [] each = tt
-    go (f ∷ rows) each = (map f each.0, go rows each.1)
-EachRemainderRow-map P Q map (Common r z) h = (go r.rows h.0, map z h.1)
-  where
-    go : (rows : List (Row Polynomial)) → EachRow P rows → EachRow Q rows
-    go [] each = tt
-    go (f ∷ rows) each = (map f each.0, go rows each.1)
-EachRemainderRow-map P Q map TooWide h = tt
+EachRemainderRow-map P Q follows (Coprime r) h = EachRow-map P Q r.rows follows h
+EachRemainderRow-map P Q follows (Common r z) h = (EachRow-map P Q r.rows follows h.0, follows z h.1)
+EachRemainderRow-map P Q follows TooWide h = tt
 
 -- a list without items is empty
 no_items : {X : Type 0} (xs : List X) → length xs ≡ 0 → xs ≡ []
@@ -110,6 +103,9 @@ module _ (p w v : ℕ) (cofactors : Bool) (prime : IsPrime p) (t c : Polynomial)
 
   pub leads : IfRows HasNonzeroLeads (remainders_of p w v cofactors t c chain)
   leads = outcome_leads p w v prime rows rows_canonical row_t row_c t_canonical c_canonical rows_start
+
+  pub last_lead : IfCoprime EndsWithItsLead (remainders_of p w v cofactors t c chain)
+  last_lead = outcome_last_lead p w v prime rows rows_canonical row_t row_c t_canonical c_canonical rows_start
 
   pub reduced : IfRows (IsReducedFromRowOne chain) (remainders_of p w v cofactors t c chain)
   reduced = subst (λ x. IfRows (IsReducedFromRowOne x) (remainders_of p w v cofactors t c chain)) (generator_rows-entries p cofactors 2 chain) (outcome_reduced p w v prime rows rows_canonical row_t row_c t_canonical c_canonical rows_start)

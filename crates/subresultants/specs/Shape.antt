@@ -44,6 +44,16 @@ pub record HasNonzeroLeads (r : RemainderRows) : Type 0 where
   pub one_less : length r.rows ≡ suc (length r.leads)
   pub nonzero : All (λ l. l ≢ []) r.leads
 
+-- P holds of coprime rows
+abbrev pub IfCoprime : (RemainderRows → Type 0) → Remainders → Type 0
+IfCoprime P (Coprime r) = P r
+IfCoprime P (Common r z) = Unit {0}
+IfCoprime P TooWide = Unit {0}
+
+-- the last lead is the last row's first entry
+abbrev pub EndsWithItsLead : RemainderRows → Type 0
+EndsWithItsLead r = (f : Row Polynomial) → slice_get r.rows (length r.rows - 1) ≡ Some f → slice_get r.leads (length r.leads - 1) ≡ Some f.first
+
 -- at a point row i is zero where none of the leads l_1 to l_(i-2) is
 abbrev pub VanishesBehindLeads : Tables → List ℕ → RemainderRows → Type 0
 VanishesBehindLeads d xs r = (i : ℕ) (f : Row Polynomial) → slice_get r.rows i ≡ Some f → AreNonZero d xs (take (i - 2) r.leads) → value_at d xs f.first ≡ d.nil

@@ -6,7 +6,7 @@ ghost use Rattle.division_rules.specs.Units.{IsCombinationOf};
 ghost use Rattle.pseudo_division.specs.FieldOperations.{operations};
 ghost use Rattle.row_laws.specs.Words.{first_entries, StartRemainderRows};
 ghost use Rattle.subresultants.specs.Outcomes.{outcome_of, remainders_of};
-ghost use Rattle.subresultants.specs.Shape.{EachRemainderRow, IfRows, HasFallingDegrees, IsReducedFromRowOne, HasNonzeroLeads, VanishesWithGenerators};
+ghost use Rattle.subresultants.specs.Shape.{EachRemainderRow, IfRows, HasFallingDegrees, IsReducedFromRowOne, HasNonzeroLeads, IfCoprime, EndsWithItsLead, VanishesWithGenerators};
 
 use crate::divisors::Memory;
 use crate::generators::{generator_row, generator_rows};
@@ -47,6 +47,7 @@ pub fn remainder_rows(
     ensures falls { IfOk result (HasFallingDegrees w.field v) }
     ensures reduced { IfOk result (IfRows (IsReducedFromRowOne below.now)) }
     ensures leads { IfOk result (IfRows HasNonzeroLeads) }
+    ensures last { IfOk result (IfCoprime EndsWithItsLead) }
     ensures zeros { IfOk result (IfRows
         (VanishesWithGenerators w.field (c.now ∷ t.now ∷ below.now))) }
 {

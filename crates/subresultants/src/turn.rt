@@ -82,7 +82,7 @@ fn undivided(
     }
 }
 
-/// The reduction by the chain, in place where the chain is empty.
+/// The reduction by the chain, without a copy where the chain is empty.
 fn reduced(alloc: Global, w: &Work, row: Row, chain: &Rows) -> Result<Option<Row>, AllocError>
     requires row { IsPolynomialRow w.now.field VARS row }
     requires chain { ArePolynomialRows w.now.field VARS chain.now }

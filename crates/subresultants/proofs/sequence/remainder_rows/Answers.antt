@@ -8,9 +8,9 @@ use Rattle.division_rules.specs.Units.{IsCombinationOf}
 use Rattle.pseudo_division.specs.FieldOperations.{operations}
 use Rattle.subresultants.specs.Generators.{generator_row}
 use Rattle.subresultants.specs.Outcomes.{remainders_of}
-use Rattle.subresultants.specs.Shape.{EachRemainderRow, IfRows, HasFallingDegrees, IsReducedFromRowOne, HasNonzeroLeads, VanishesWithGenerators}
+use Rattle.subresultants.specs.Shape.{EachRemainderRow, IfRows, HasFallingDegrees, IsReducedFromRowOne, HasNonzeroLeads, IfCoprime, EndsWithItsLead, VanishesWithGenerators}
 use Rattle.subresultants.specs.declared.outcome.Remainders.{Remainders}
-use Rattle.subresultants.proofs.PolynomialRemainders.{if_ok, few_below, t_canonical, c_canonical, rows_canonical, same_start, same_counts, same_outcome, over, falls, leads, reduced, zeros, combinations, no_cofactors}
+use Rattle.subresultants.proofs.PolynomialRemainders.{if_ok, few_below, t_canonical, c_canonical, rows_canonical, same_start, same_counts, same_outcome, over, falls, last_lead, leads, reduced, zeros, combinations, no_cofactors}
 use Rattle.subresultants.proofs.sequence.remainder_rows.Goals as goal
 
 pub overflow_add-count : goal.overflow_add-count
@@ -79,6 +79,9 @@ returns-clause-reduced c = if_ok (IfRows (IsReducedFromRowOne c.args.below.now))
 
 pub returns-clause-leads : goal.returns-clause-leads
 returns-clause-leads c = if_ok (IfRows HasNonzeroLeads) (remainders_of c.args.w.field c.args.w.width c.args.v c.args.cofactors c.args.t.now c.args.c.now c.args.below.now) c.rows_of.result (returns-clause-value c) (leads c.args.w.field c.args.w.width c.args.v c.args.cofactors c.prime.ensures.prime c.args.t.now c.args.c.now c.args.below.now c.requires.first c.requires.second c.requires.chain c.requires.start)
+
+pub returns-clause-last : goal.returns-clause-last
+returns-clause-last c = if_ok (IfCoprime EndsWithItsLead) (remainders_of c.args.w.field c.args.w.width c.args.v c.args.cofactors c.args.t.now c.args.c.now c.args.below.now) c.rows_of.result (returns-clause-value c) (last_lead c.args.w.field c.args.w.width c.args.v c.args.cofactors c.prime.ensures.prime c.args.t.now c.args.c.now c.args.below.now c.requires.first c.requires.second c.requires.chain c.requires.start)
 
 pub returns-clause-zeros : goal.returns-clause-zeros
 returns-clause-zeros c = if_ok (IfRows (VanishesWithGenerators c.args.w.field (c.args.c.now ∷ c.args.t.now ∷ c.args.below.now))) (remainders_of c.args.w.field c.args.w.width c.args.v c.args.cofactors c.args.t.now c.args.c.now c.args.below.now) c.rows_of.result (returns-clause-value c) (zeros c.args.w.field c.args.w.width c.args.v c.args.cofactors c.prime.ensures.prime c.args.t.now c.args.c.now c.args.below.now c.requires.first c.requires.second c.requires.chain c.requires.start)
