@@ -48,6 +48,7 @@ module _ (p n : ℕ) (prime : IsPrime p) where
   monic_form [] i h = absurd h
   monic_form (t ∷ g) i h = monic_itself p n prime t g i h
 
+  -- monic polynomials of which one is a constant times the other
   constant_factor : (c : ℕ) (g h : Polynomial) → c < p → IsPolynomial p n g → IsPolynomial p n h → IsMonic g → IsMonic h → product_of p (constant_of n c) g ≡ h → g ≡ h
   constant_factor zero g h below i j mg mh e = absurd (monic_nonzero h mh (sym e ∙ zero-product_of p g))
   constant_factor (suc c) g h below i j mg mh e =
@@ -140,6 +141,7 @@ module _ (p n : ℕ) (prime : IsPrime p) where
       let first : IsFreeOf v (t ∷ f) = each 0 (t ∷ f) (omega arith) v above in
       (factors_are_free p n v divides.0.0 g prime divides.0.1 i (λ none. let whole = sym e ∙ none in cc) (subst (IsFreeOf v) (sym e) first)).1
 
+  -- so the greatest common divisor is one
   pub result_univariate : (fs : List Polynomial) (g : Polynomial) → ArePolynomials p n fs → All IsUnivariate fs → IsGreatestCommonDivisor p n fs g → IsUnivariate g
   result_univariate fs g ifs each a = elim (all_zero_or_not fs) [
     | inl zeros ↦ λ v above. ap (degree_in v) (a.zero zeros)

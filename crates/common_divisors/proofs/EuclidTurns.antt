@@ -70,6 +70,7 @@ module _ (p n : ℕ) (many : 1 < p) where
     pub next_member : IsInIdeal p n fs d → IsInIdeal p n fs g
     next_member member = in_ideal_of_members p n many fs (d ∷ f ∷ []) g ifs (member, (item_in_ideal fs i f ifs at, tt)) same.0.0
 
+    -- it divides the inputs before the place, and that at the place
     by_place : (k : ℕ) (h : Polynomial) → slice_get fs k ≡ Some h → (k ≡ i) ⊎ (k < i) → (k < i → Divides p n d h) → Divides p n g h
     by_place k h there (inr below) before = divides_from_ideal p n many g h ig (in_ideal_of_members p n many (g ∷ []) (d ∷ []) h (ig, tt) (same.1.0, tt) (in_ideal_from_divides p n many d h id (before below)))
     by_place k h there (inl e) before =

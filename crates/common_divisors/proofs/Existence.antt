@@ -23,6 +23,7 @@ module _ (p n : ℕ) (prime : IsPrime p) where
   positive : 0 < p
   positive = omega (arith, prime.many)
 
+  -- the polynomial of a list
   abbrev P : List ℕ → Polynomial
   P cs = polynomial_of p n cs
 
@@ -37,6 +38,7 @@ module _ (p n : ℕ) (prime : IsPrime p) where
   abbrev Parted : List ℕ → Type 0
   Parted cs = (front : List ℕ) × (c : ℕ) × (cs ≡ front ++ c ∷ []) × (length cs ≡ length front + 1) × All (λ c. c < p) front × (c < p)
 
+  -- each list of residues with items
   parted : (cs : List ℕ) → All (λ c. c < p) cs → 0 < length cs → Parted cs
   parted cs small some =
       let whole = last_apart cs (length cs - 1) (omega arith) in
@@ -66,12 +68,14 @@ module _ (p n : ℕ) (prime : IsPrime p) where
   abbrev Below : ℕ → Type 0
   Below k = (xs ys : List ℕ) → All (λ c. c < p) xs → All (λ c. c < p) ys → length xs + length ys < k → Generator (P xs ∷ P ys ∷ [])
 
+  -- by whether the last coefficient of the second is 0
   by_last : (k : ℕ) → Below k → (xs ys lower : List ℕ) (lead : ℕ) → All (λ c. c < p) xs → length xs + length ys ≤ k → length ys ≤ length xs → ys ≡ lower ++ lead ∷ [] → length ys ≡ length lower + 1 → All (λ c. c < p) lower → lead < p → All (λ c. c < p) ys → Generator (P xs ∷ P ys ∷ [])
   by_last k below xs ys lower zero sa sum less e count sl least sb = subst (λ f. Generator (P xs ∷ f ∷ [])) (sym (ap P e ∙ polynomial_of-last n p positive lower)) (below xs lower sa sl (omega arith))
   by_last k below xs ys lower (suc lead) sa sum less e count sl least sb =
       let (front, c, ea, many, small, most) = parted xs sa (omega arith) in
       euclid_step xs ys front lower c (suc lead) ea e small most (omega arith) least (omega arith) (λ gs sg long. below ys gs sb sg (omega arith))
 
+  -- where the second is no longer than the first
   in_order : (k : ℕ) → Below k → (xs ys : List ℕ) → All (λ c. c < p) xs → All (λ c. c < p) ys → length xs + length ys ≤ k → length ys ≤ length xs → Generator (P xs ∷ P ys ∷ [])
   in_order k below xs [] sa sb sum less = (xs, sa, euclid_end p n prime.many (P xs) [] (canonical xs) tt (P xs) (canonical xs) (own_ideal p n prime.many (P xs) [] (canonical xs) tt))
   in_order k below xs (b ∷ ys) sa sb sum less =
@@ -102,6 +106,7 @@ module _ (p n : ℕ) (prime : IsPrime p) where
       let members : HaveOneIdeal p n (f ∷ fs) (f ∷ P ds ∷ []) = ((head_in_ideal p n prime.many f fs ifs.0 ifs.1, longer_each f fs (P ds ∷ []) ifs.0 ifs.1 same.0), (head_in_ideal p n prime.many f (P ds ∷ []) ifs.0 (canonical ds, tt), longer_each f (P ds ∷ []) fs ifs.0 (canonical ds, tt) same.1)) in
       (gs, sg, one_ideal_in_steps p n prime.many (f ∷ fs) (f ∷ P ds ∷ []) (P gs ∷ []) ifs (canonical gs, tt) members both)
 
+  -- a polynomial divides those in its ideal
   divides_members : (g : Polynomial) (fs : List Polynomial) → IsPolynomial p n g → AreInIdeal p n (g ∷ []) fs → DividesEach p n g fs
   divides_members g [] i members = tt
   divides_members g (f ∷ fs) i members = (divides_from_ideal p n prime.many g f i members.0, divides_members g fs i members.1)

@@ -42,20 +42,19 @@ module _ (p n : ℕ) (many : 1 < p) where
   IsPolynomial-combination (c ∷ cs) [] ics ifs = tt
   IsPolynomial-combination (c ∷ cs) (f ∷ fs) ics ifs = IsPolynomial-sum_of p n positive (product_of p c f) (combination p cs fs) (IsPolynomial-product_of p n positive c f ics.0 ifs.0) (IsPolynomial-combination cs fs ics.1 ifs.1)
 
-  pub IsPolynomial-in_ideal : (fs : List Polynomial) (g : Polynomial) → ArePolynomials p n fs → IsInIdeal p n fs g → IsPolynomial p n g
-  IsPolynomial-in_ideal fs g ifs member = subst (IsPolynomial p n) member.3 (IsPolynomial-combination member.0 fs member.1 ifs)
-
-  -- joined cofactors are canonical, and as many
+  -- joined cofactors are canonical
   ArePolynomials-sum : (cs ds : List Polynomial) → ArePolynomials p n cs → ArePolynomials p n ds → ArePolynomials p n (sum_cofactors cs ds)
   ArePolynomials-sum [] ds ics ids = tt
   ArePolynomials-sum (c ∷ cs) [] ics ids = tt
   ArePolynomials-sum (c ∷ cs) (d ∷ ds) ics ids = (IsPolynomial-sum_of p n positive c d ics.0 ids.0, ArePolynomials-sum cs ds ics.1 ids.1)
 
+  -- they are as many
   length-sum : (k : ℕ) (cs ds : List Polynomial) → length cs ≡ k → length ds ≡ k → length (sum_cofactors cs ds) ≡ k
   length-sum k [] ds ec ed = ec
   length-sum k (c ∷ cs) [] ec ed = ed
   length-sum k (c ∷ cs) (d ∷ ds) ec ed = ap suc (length-sum (length cs) cs ds refl (omega arith)) ∙ ec
 
+  -- and make the sum
   combination-sum : (cs ds fs : List Polynomial) → ArePolynomials p n cs → ArePolynomials p n ds → ArePolynomials p n fs → length cs ≡ length fs → length ds ≡ length fs → combination p (sum_cofactors cs ds) fs ≡ sum_of p (combination p cs fs) (combination p ds fs)
   combination-sum [] [] [] ics ids ifs ec ed = refl
   combination-sum [] (d ∷ ds) [] ics ids ifs ec ed = absurd (omega arith)
@@ -70,15 +69,17 @@ module _ (p n : ℕ) (many : 1 < p) where
   pub sum_in_ideal : (fs : List Polynomial) (g h : Polynomial) → ArePolynomials p n fs → IsInIdeal p n fs g → IsInIdeal p n fs h → IsInIdeal p n fs (sum_of p g h)
   sum_in_ideal fs g h ifs (cs, ics, ec, eg) (ds, ids, ed, eh) = (sum_cofactors cs ds, ArePolynomials-sum cs ds ics ids, length-sum (length fs) cs ds ec ed, combination-sum cs ds fs ics ids ifs ec ed ∙ ap₂ (sum_of p) eg eh)
 
-  -- multiplied cofactors are canonical, and as many
+  -- multiplied cofactors are canonical
   ArePolynomials-product : (q : Polynomial) (cs : List Polynomial) → IsPolynomial p n q → ArePolynomials p n cs → ArePolynomials p n (product_cofactors q cs)
   ArePolynomials-product q [] iq ics = tt
   ArePolynomials-product q (c ∷ cs) iq ics = (IsPolynomial-product_of p n positive q c iq ics.0, ArePolynomials-product q cs iq ics.1)
 
+  -- they are as many
   length-product : (q : Polynomial) (cs : List Polynomial) → length (product_cofactors q cs) ≡ length cs
   length-product q [] = refl
   length-product q (c ∷ cs) = ap suc (length-product q cs)
 
+  -- and make the multiple
   combination-product : (q : Polynomial) (cs fs : List Polynomial) → IsPolynomial p n q → ArePolynomials p n cs → ArePolynomials p n fs → combination p (product_cofactors q cs) fs ≡ product_of p q (combination p cs fs)
   combination-product q [] fs iq ics ifs = sym (product_of-zero p q)
   combination-product q (c ∷ cs) [] iq ics ifs = sym (product_of-zero p q)
@@ -138,5 +139,6 @@ module _ (p n : ℕ) (many : 1 < p) where
       empty [] = refl
       empty (c ∷ cs) = refl
 
+  -- and each multiple is in it
   pub in_ideal_from_divides : (g f : Polynomial) → IsPolynomial p n g → Divides p n g f → IsInIdeal p n (g ∷ []) f
   in_ideal_from_divides g f i (q, iq, e) = subst (IsInIdeal p n (g ∷ [])) e (first_in_ideal q g [] iq i tt)

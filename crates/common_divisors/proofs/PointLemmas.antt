@@ -18,6 +18,8 @@ use Rattle.zero_sets.proofs.ValueLaws.{value_at-sum_of, value_at-constant_of, ze
 use Rattle.common_divisors.specs.Ideals.{DividesEach}
 use Rattle.common_divisors.specs.Divisors.{IsUnivariate, IsMonic, IsGreatestCommonDivisor}
 use Rattle.common_divisors.specs.Chains.{chains_of, IsCovered}
+use Rattle.common_divisors.specs.Laws.{ChainsHaveCommonZeros}
+use Rattle.common_divisors.proofs.DivisorLemmas.{result_univariate, result_monic}
 
 -- a residue that makes a monic constant is 1
 monic_constant : (n c : ℕ) → IsMonic (constant_of n c) → constant_of n c ≡ one_of n
@@ -28,6 +30,7 @@ module _ (p : ℕ) (r : Tables) (domain : IsFiniteDomain p r) (xs : List ℕ) (p
   abbrev R : Ring (Element r)
   R = table_ring p r domain
 
+  -- the value in the ring of the domain
   abbrev V : Polynomial → Element r
   V f = value R (coordinates p r domain xs point) f
 
@@ -55,6 +58,7 @@ module _ (p : ℕ) (r : Tables) (domain : IsFiniteDomain p r) (xs : List ℕ) (p
     one_nonzero : value_at r xs (one_of n) ≢ r.nil
     one_nonzero e = value_at-constant_of p r domain xs point n 1 prime (omega arith) prime.many (ap (value_at r xs) (constant_of-one n) ∙ e)
 
+    -- nor is a constant other than 0
     constant_nonzero : (c : ℕ) (f : Polynomial) → f ≢ [] → c < p → f ≡ constant_of n c → value_at r xs f ≢ r.nil
     constant_nonzero zero f some below e z = some e
     constant_nonzero (suc c) f some below e z = value_at-constant_of p r domain xs point n (suc c) prime (omega arith) below (ap (value_at r xs) (sym e) ∙ z)
@@ -65,6 +69,7 @@ module _ (p : ℕ) (r : Tables) (domain : IsFiniteDomain p r) (xs : List ℕ) (p
         let constant = constant_from_free p n f (omega (arith, prime.many)) i free in
         constant_nonzero constant.0 f some constant.1 constant.2
 
+    -- nor the initial of a monic polynomial in one variable other than 1
     initial_nonzero : (g : Polynomial) (o : Option ℕ) → main_var g ≡ o → IsPolynomial p n g → IsUnivariate g → IsMonic g → g ≢ [] → g ≢ one_of n → value_at r xs (initial_of g) ≢ r.nil
     initial_nonzero g None e i univariate m some other =
         let constant = constant_from_free p n g (omega (arith, prime.many)) i (free_without_main_var g e) in
@@ -93,8 +98,16 @@ module _ (p : ℕ) (r : Tables) (domain : IsFiniteDomain p r) (xs : List ℕ) (p
         back (chain, (zero, below, at), quasi) = (subst (InQuasiComponent r xs) (sym at) quasi).0.0
         back (chain, (suc k, below, at), quasi) = absurd (omega arith)
 
+    -- and so are those of 0
     pub chains_covered : (g : Polynomial) → IsPolynomial p n g → IsUnivariate g → (g ≢ [] → IsMonic g) → (value_at r xs g ≡ r.nil) ↔ IsCovered r xs (chains_of n g)
     chains_covered [] i univariate m = ((λ z. ([], (0, omega arith, refl), (tt, tt))), (λ c. refl))
     chains_covered (t ∷ g) i univariate m =
         let some : t ∷ g ≢ [] = λ e. cc in
         covered (t ∷ g) (same_polynomial (t ∷ g) (one_of n)) refl i univariate (m some) some
+
+-- the points of the triangular sets are the common zeros
+pub chains_have_common_zeros : ChainsHaveCommonZeros
+chains_have_common_zeros p n r xs inputs g prime domain point one canonical univariate a =
+    let zeros = common_zeros p r domain xs point n inputs g a in
+    let sets = chains_covered p r domain xs point n prime g a.polynomial (result_univariate p n prime inputs g canonical univariate a) (result_monic p n prime inputs g a) in
+    ((λ z. sets.0 (zeros.0 z)), (λ s. zeros.1 (sets.1 s)))
