@@ -1,4 +1,5 @@
 pub mod Parts
+pub mod Results
 pub mod Reductions
 pub mod FirstRemainders
 pub mod Roots

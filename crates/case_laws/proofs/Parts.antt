@@ -13,9 +13,13 @@ use Rattle.case_laws.specs.Lawful.{IsLawfulPolynomial, AreLawfulPolynomials, IsL
 abbrev pub IsSmall : Polynomial → Type 0
 IsSmall f = (v : ℕ) → degree_in v f ≤ 65535
 
--- none of the polynomials of a task
+-- nor one of any of fs
+abbrev pub AreSmall : List Polynomial → Type 0
+AreSmall fs = AllByRecursion IsSmall fs
+
+-- nor one of any polynomial of a task
 abbrev pub IsSmallTask : Task → Type 0
-IsSmallTask task = AllByRecursion IsSmall task.chain × AllByRecursion IsSmall task.queue × AllByRecursion IsSmall task.nonzero
+IsSmallTask task = AreSmall task.chain × AreSmall task.queue × AreSmall task.nonzero
 
 module _ (p n k : ℕ) where
   -- lawful polynomials are canonical
@@ -27,18 +31,19 @@ module _ (p n k : ℕ) where
   free_lawful v past fs lawful = each_implied (IsLawfulPolynomial p n k) (λ f. degree_in v f ≡ 0) (λ f of_f. of_f.named v past) fs lawful
 
   -- with degrees that are small
-  pub small_lawful : (fs : List Polynomial) → AreLawfulPolynomials p n k fs → AllByRecursion IsSmall fs
+  pub small_lawful : (fs : List Polynomial) → AreLawfulPolynomials p n k fs → AreSmall fs
   small_lawful fs lawful = each_implied (IsLawfulPolynomial p n k) IsSmall (λ f of_f. of_f.small) fs lawful
 
   -- and what is all that is lawful
-  pub lawful_parts : (fs : List Polynomial) → ArePolynomials p n fs → ((v : ℕ) → k ≤ v → AreFreeOf v fs) → AllByRecursion IsSmall fs → AreLawfulPolynomials p n k fs
+  pub lawful_parts : (fs : List Polynomial) → ArePolynomials p n fs → ((v : ℕ) → k ≤ v → AreFreeOf v fs) → AreSmall fs → AreLawfulPolynomials p n k fs
   lawful_parts [] canonical free small = tt
   lawful_parts (f ∷ fs) canonical free small = (record { canonical = canonical.0; named = λ v past. (free v past).0; small = small.0 }, lawful_parts fs canonical.1 (λ v past. (free v past).1) small.1)
 
   module _ (task : Task) (lawful : IsLawfulTask p n k task) where
-    -- so is a task
+    -- so is a task of them
     pub task_over : IsTaskOver p n task
     task_over = (canonical_lawful task.chain lawful.chain.lawful, canonical_lawful task.queue lawful.queue, canonical_lawful task.nonzero lawful.nonzero)
 
+    -- without the variables from k on
     pub task_free : (v : ℕ) → k ≤ v → IsTaskFreeOf v task
     task_free v past = (free_lawful v past task.chain lawful.chain.lawful, free_lawful v past task.queue lawful.queue, free_lawful v past task.nonzero lawful.nonzero)

@@ -13,9 +13,11 @@ use Rattle.division_rules.proofs.Steps.{choose}
 use Rattle.impose_rules.specs.Factors.{stripped}
 use Rattle.case_laws.proofs.Parts.{IsSmall}
 
+-- 0 has the degree 0
 pub zero_small : IsSmall []
 zero_small v = omega arith
 
+-- sums, negatives, monic forms, leads and tails don't raise degrees
 pub sum_small : (p : ℕ) (f g : Polynomial) → IsSmall f → IsSmall g → IsSmall (sum_of p f g)
 sum_small p f g small_f small_g v = degree_in-sum_of v p 65535 f g (small_f v) (small_g v)
 

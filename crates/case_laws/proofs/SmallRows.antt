@@ -16,12 +16,8 @@ use Rattle.division_rules.specs.Quotients.{quotient_within}
 use Rattle.division_rules.proofs.Steps.{choose}
 use Rattle.impose_laws.proofs.Options.{then_holds}
 use Rattle.case_laws.proofs.Parts.{IsSmall}
+use Rattle.case_laws.proofs.Results.{then_follows}
 use Rattle.case_laws.proofs.Small.{sum_small, negative_small, lead_small, product_small, quotient_small}
-
--- what follows from a result of the first step holds of what comes of the second
-pub then_follows : {A B : Type 0} (P : A → Type 0) (Q : B → Type 0) (x : Option A) (f : A → Option B) → IfSome x P → ((a : A) → P a → IfSome (f a) Q) → IfSome (and_then x f) Q
-then_follows P Q None f of_x each = tt
-then_follows P Q (Some a) f of_x each = each a of_x
 
 -- a row whose first entry is small
 abbrev pub IsSmallRow : Row Polynomial → Type 0
@@ -48,14 +44,14 @@ module _ (p n w : ℕ) where
   elimination_small : (v : ℕ) (f g : Row Polynomial) → IfSome (elimination_within o w v f g) IsSmallRow
   elimination_small v f g = row_small (cross_within o w (lead o v g.first) (shifted_lead o v f.first g.first) f.first g.first) (cross_all_within o w (lead o v g.first) (shifted_lead o v f.first g.first) f.cofactors g.cofactors) (cross_small (lead o v g.first) (shifted_lead o v f.first g.first) f.first g.first)
 
-  remainder_small : (v : ℕ) (g : Row Polynomial) (k : ℕ) (f : Row Polynomial) → IsSmallRow f → IfSome (sparse_remainder_by_within o w v g k f) IsSmallRow
-  remainder_small v g zero f small = small
-  remainder_small v g (suc k) f small = choose (λ x. IfSome x IsSmallRow) (is_reduced_by o v g f) (Some f) (and_then (elimination_within o w v f g) (λ h. sparse_remainder_by_within o w v g k h)) (λ e. small) (λ e. then_follows IsSmallRow IsSmallRow (elimination_within o w v f g) (λ h. sparse_remainder_by_within o w v g k h) (elimination_small v f g) (λ h small_h. remainder_small v g k h small_h))
+  sparse_remainder_small : (v : ℕ) (g : Row Polynomial) (k : ℕ) (f : Row Polynomial) → IsSmallRow f → IfSome (sparse_remainder_by_within o w v g k f) IsSmallRow
+  sparse_remainder_small v g zero f small = small
+  sparse_remainder_small v g (suc k) f small = choose (λ x. IfSome x IsSmallRow) (is_reduced_by o v g f) (Some f) (and_then (elimination_within o w v f g) (λ h. sparse_remainder_by_within o w v g k h)) (λ e. small) (λ e. then_follows IsSmallRow IsSmallRow (elimination_within o w v f g) (λ h. sparse_remainder_by_within o w v g k h) (elimination_small v f g) (λ h small_h. sparse_remainder_small v g k h small_h))
 
   -- so are reductions of what is small
   pub reduction_small : (chain : List (Row Polynomial)) (f : Row Polynomial) → IsSmallRow f → IfSome (reduction_within o w chain f) IsSmallRow
   reduction_small [] f small = small
-  reduction_small (t ∷ chain) f small = then_follows IsSmallRow IsSmallRow (reduction_within o w chain f) (λ g. sparse_remainder_within o w (o.views.main t.first) g t) (reduction_small chain f small) (λ g small_g. remainder_small (o.views.main t.first) t (turns o (o.views.main t.first) g.first t.first) g small_g)
+  reduction_small (t ∷ chain) f small = then_follows IsSmallRow IsSmallRow (reduction_within o w chain f) (λ g. sparse_remainder_within o w (o.views.main t.first) g t) (reduction_small chain f small) (λ g small_g. sparse_remainder_small (o.views.main t.first) t (turns o (o.views.main t.first) g.first t.first) g small_g)
 
   times_row_small : (l : Polynomial) (f : Row Polynomial) → IfSome (times_row_within o w l f) IsSmallRow
   times_row_small l f = row_small (times_within o w l f.first) (times_all_within o w l f.cofactors) (times_small l f.first)
@@ -63,13 +59,13 @@ module _ (p n w : ℕ) where
   turn_small : (v : ℕ) (f g : Row Polynomial) → IfSome (elim (is_reduced_by o v g f) [ true ↦ times_row_within o w (lead o v g.first) f | false ↦ elimination_within o w v f g ]) IsSmallRow
   turn_small v f g = choose (λ x. IfSome x IsSmallRow) (is_reduced_by o v g f) (times_row_within o w (lead o v g.first) f) (elimination_within o w v f g) (λ e. times_row_small (lead o v g.first) f) (λ e. elimination_small v f g)
 
-  turns_small : (v : ℕ) (g : Row Polynomial) (k : ℕ) (f : Row Polynomial) → IsSmallRow f → IfSome (pseudo_remainder_by_within o w v g k f) IsSmallRow
-  turns_small v g zero f small = small
-  turns_small v g (suc k) f small = then_follows IsSmallRow IsSmallRow (elim (is_reduced_by o v g f) [ true ↦ times_row_within o w (lead o v g.first) f | false ↦ elimination_within o w v f g ]) (λ h. pseudo_remainder_by_within o w v g k h) (turn_small v f g) (λ h small_h. turns_small v g k h small_h)
+  pseudo_remainder_small : (v : ℕ) (g : Row Polynomial) (k : ℕ) (f : Row Polynomial) → IsSmallRow f → IfSome (pseudo_remainder_by_within o w v g k f) IsSmallRow
+  pseudo_remainder_small v g zero f small = small
+  pseudo_remainder_small v g (suc k) f small = then_follows IsSmallRow IsSmallRow (elim (is_reduced_by o v g f) [ true ↦ times_row_within o w (lead o v g.first) f | false ↦ elimination_within o w v f g ]) (λ h. pseudo_remainder_by_within o w v g k h) (turn_small v f g) (λ h small_h. pseudo_remainder_small v g k h small_h)
 
   -- a pseudo-remainder has a turn at least
   undivided_small : (v : ℕ) (chain : List (Row Polynomial)) (f g : Row Polynomial) → IfSome (undivided_within o w v chain f g) IsSmallRow
-  undivided_small v chain f g = then_follows IsSmallRow IsSmallRow (pseudo_remainder_within o w v f g) (λ h. reduction_within o w chain h) (then_follows IsSmallRow IsSmallRow (elim (is_reduced_by o v g f) [ true ↦ times_row_within o w (lead o v g.first) f | false ↦ elimination_within o w v f g ]) (λ h. pseudo_remainder_by_within o w v g (degree_in v f.first - degree_in v g.first) h) (turn_small v f g) (λ h small_h. turns_small v g (degree_in v f.first - degree_in v g.first) h small_h)) (λ h small_h. reduction_small chain h small_h)
+  undivided_small v chain f g = then_follows IsSmallRow IsSmallRow (pseudo_remainder_within o w v f g) (λ h. reduction_within o w chain h) (then_follows IsSmallRow IsSmallRow (elim (is_reduced_by o v g f) [ true ↦ times_row_within o w (lead o v g.first) f | false ↦ elimination_within o w v f g ]) (λ h. pseudo_remainder_by_within o w v g (degree_in v f.first - degree_in v g.first) h) (turn_small v f g) (λ h small_h. pseudo_remainder_small v g (degree_in v f.first - degree_in v g.first) h small_h)) (λ h small_h. reduction_small chain h small_h)
 
   -- a quotient within the width is small, and else the row stays
   divided_small : (b : Polynomial) (s : Row Polynomial) → IsSmallRow s → IsSmallRow (or_else (divided o w b s) s)

@@ -1,10 +1,8 @@
 -- The step of a lawful task is lawful.
-use Rattle.std.proofs.Common.{◌≡◌, ℕ, suc, ◌≤◌, max, Bool, true, false, List, [], ◌∷◌, length, Option, Some, None, IfSome, refl, sym, subst, arith}
+use Rattle.std.proofs.Common.{◌≡◌, ℕ, ◌≤◌, max, Bool, true, false, List, [], ◌∷◌, length, Option, Some, None, IfSome, refl, sym, subst, arith}
 use Rattle.std.specs.List.{AllByRecursion}
 use Rattle.polynomials.specs.Primes.{IsPrime}
 use Rattle.polynomials.specs.Polynomials.{Polynomial}
-use Rattle.polynomials.specs.Views.{main_var}
-use Rattle.zero_sets.specs.ZeroSets.{IsTriangularFrom}
 use Rattle.zero_sets.specs.Tasks.{Task}
 use Rattle.division_rules.specs.Lists.{list_operations}
 use Rattle.division_rules.specs.Rows.{plain, plains}
@@ -17,30 +15,35 @@ use Rattle.impose_rules.proofs.Lists.{each_implied}
 use Rattle.impose_laws.specs.TaskForms.{KeepsForm}
 use Rattle.impose_laws.proofs.FewChildren.{children_are_few}
 use Rattle.impose_laws.proofs.KeptForms.{children_keep_the_form}
-use Rattle.impose_laws.proofs.RowShapes.{reduction_without}
+use Rattle.row_laws.specs.Degrees.{AreFreeOf}
+use Rattle.row_laws.proofs.DegreeLaws.{reductions_keep_degrees}
 use Rattle.case_rules.specs.Finish.{has_zero_remainder, first_remainder, step_by_remainder, step_by_nonzero}
 use Rattle.case_rules.specs.Cases.{step_by_queue}
 use Rattle.case_laws.specs.Lawful.{IsLawfulPolynomial, AreLawfulPolynomials, IsLawfulChain, IsLawfulTask}
 use Rattle.case_laws.specs.Laws.{CaseStepsKeepLaw}
 use Rattle.case_laws.proofs.FirstRemainders.{IfRemainder, first_found}
-use Rattle.case_laws.proofs.Parts.{IsSmall, canonical_lawful, free_lawful, small_lawful, lawful_parts, task_over, task_free}
+use Rattle.case_laws.proofs.Parts.{IsSmall, AreSmall, canonical_lawful, small_lawful, lawful_parts, task_over, task_free}
 use Rattle.case_laws.proofs.Reductions.{remainder_is}
-use Rattle.case_laws.proofs.SmallRows.{then_follows, IsSmallRow, reduction_small}
+use Rattle.case_laws.proofs.Results.{then_follows}
+use Rattle.case_laws.proofs.SmallRows.{IsSmallRow, reduction_small}
 use Rattle.case_laws.proofs.SmallTasks.{AreSmallTasks, children_small}
 
--- each polynomial of a triangular set has a main variable
-each_main : (v : ℕ) (chain : List Polynomial) → IsTriangularFrom v chain → AllByRecursion (λ t. (u : ℕ) × (main_var t ≡ Some u)) chain
-each_main v [] triangular = tt
-each_main v (t ∷ chain) triangular = ((triangular.0, triangular.1), each_main (suc triangular.0) chain triangular.3)
-
 module _ (p n k w : ℕ) (prime : IsPrime p) where
+  -- the variables from k on don't occur
+  chain_free : (v : ℕ) → k ≤ v → (fs : List Polynomial) → AreLawfulPolynomials p n k fs → AreFreeOf v fs
+  chain_free v past [] lawful = tt
+  chain_free v past (f ∷ fs) lawful = (lawful.0.named v past, chain_free v past fs lawful.1)
+
   -- the remainder of a lawful polynomial by a lawful triangular set
   remainder_lawful : (chain : List Polynomial) → IsLawfulChain p n k chain → (f : Polynomial) → IsLawfulPolynomial p n k f → IfRemainder p n w chain (IsLawfulPolynomial p n k) f
   remainder_lawful chain lawful f of_f r made =
       let are = canonical_lawful p n k chain lawful.lawful in
       subst (IsLawfulPolynomial p n k) (sym (remainder_is p n w chain f r made)) (record {
         canonical = (IsPolynomialRow-reduction p n prime.many (plains chain) (plain f) (plains_canonical p n prime.many chain are) (of_f.canonical, tt)).0;
-        named = λ v past. reduction_without p n prime v chain f are of_f.canonical (each_main 0 chain lawful.triangular) (free_lawful p n k v past chain lawful.lawful) (of_f.named v past);
+        named = λ v past.
+            let falls = reductions_keep_degrees p n v chain f prime are of_f.canonical lawful.triangular (chain_free v past chain lawful.lawful) in
+            let none = of_f.named v past in
+            omega arith;
         small = subst IsSmall (remainder_is p n w chain f r made) (subst (λ o. IfSome o IsSmall) made (then_follows IsSmallRow IsSmall (reduction_within (list_operations p n) w (plains chain) (plain f)) (λ g. Some g.first) (reduction_small p n w (plains chain) (plain f) of_f.small) (λ g small. small)));
       })
 
@@ -90,7 +93,7 @@ module _ (p n k w : ℕ) (prime : IsPrime p) where
     by_queue : (queue : List Polynomial) → task.queue ≡ queue → IsLawfulStep IsLawful (IsLawfulChain p n k) (step_by_queue p n w inputs task queue)
     by_queue [] starts = finish_lawful (has_zero_remainder p n w task.chain task.nonzero)
     by_queue (f ∷ rest) starts =
-        let small = subst (AllByRecursion IsSmall) starts (small_lawful p n k task.queue lawful.queue) in
+        let small = subst AreSmall starts (small_lawful p n k task.queue lawful.queue) in
         let over = task_over p n k task lawful in
         few_lawful (impose_children p n w task.chain rest task.nonzero f) (children_keep_the_form p n w task f rest prime over lawful.chain.triangular starts) (children_small p n w task.chain rest task.nonzero (small_lawful p n k task.chain lawful.chain.lawful) small.1 (small_lawful p n k task.nonzero lawful.nonzero) f small.0) (children_are_few p n w 65535 task f rest prime over lawful.chain.triangular starts (small_lawful p n k task.chain lawful.chain.lawful))
 
