@@ -1,1 +1,20 @@
 mod Examples
+pub mod Values
+pub mod Places
+pub mod Runs
+pub mod TreesAreRead
+pub mod PartialTrees
+pub mod Passed
+pub mod Steps
+pub mod LaterSteps
+pub mod ReadSums
+pub mod CharacterLemmas
+pub mod TokenTexts
+pub mod Lookups
+pub mod HeadWords
+pub mod PrimeLines
+pub mod OrderLines
+pub mod PlainTexts
+pub mod TextLines
+pub mod ReadTexts
+pub mod ReadSystems
