@@ -1,6 +1,18 @@
 //! The text of a system, read from left to right to a system or to the first refusal.
 #![tactic(auto)]
 
+mod characters;
 mod errors;
+mod faults;
+mod frames;
+mod heads;
+mod lines;
+mod names;
+mod numbers;
+mod powers;
+mod sums;
+mod text;
+mod tokens;
 
 pub use errors::{ParseError, ParseFault};
+pub use text::parse;
