@@ -1,3 +1,3 @@
-pub mod Statuses
-pub mod Lines
-pub mod Reads
+pub mod Answers
+pub mod Expected
+pub mod Runs

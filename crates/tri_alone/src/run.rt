@@ -1,22 +1,16 @@
-ghost use Rattle.std.specs.Prelude.{◌≡◌, ◌≢◌, ◌⊎◌, []};
-ghost use Rattle.std.specs.Io.KnownBytes.{Appends, IsAtEnd};
-ghost use Rattle.tri_alone.specs.Lines.{usage_line, refused_line};
-ghost use Rattle.tri_alone.specs.Reads.{IsReadThrough};
+ghost use Rattle.std.specs.Prelude.{◌≡◌, ◌≢◌, ◌⊎◌, ◌↔◌, [], map, IfOk, IfSome, IsErrOf, string_bytes};
+ghost use Rattle.tri_alone.specs.Expected.{IsExpected};
+ghost use Rattle.tri_alone.specs.Runs.{Ends, IsSolved, Leaves, Writes, IsOfAnswer, IsOfText};
 ghost use Rattle.tri_io.specs.Faults.{Rose};
 
-use crate::euclid::common_divisor;
-use crate::printer::report;
-use crate::reader::read_system;
-use crate::status::Status;
+use crate::answer::{Answer, answer_to_input};
+use mono_words::VARS;
+use report_text::{Status, print_usage};
 use std::alloc::{AllocError, Global};
-use tri_io::{Input, ReadFail, Sink, Source, read_all, write_all};
+use tri_io::{ReadFail, Sink, Source, read_all, write_all};
 
 /// The greatest number of bytes that a system may have.
 pub const MOST_BYTES: usize = 1_048_576;
-
-const USAGE: &str = "usage: triangularize_alone [--steps S] [--width W] [--made K]\n";
-
-const REFUSED: &str = "refused 14\n";
 
 /// Reads a system from the source and writes its answer to the sink. No words are known yet.
 pub fn run_alone<S: Source, K: Sink>(
@@ -25,19 +19,20 @@ pub fn run_alone<S: Source, K: Sink>(
     source: &mut S,
     sink: &mut K,
 ) -> Status
+    // What is written, and what is read, where the ends tell it.
+    ensures ends { IfSome (S.left source.old) (λ bytes. Ends VARS (map string_bytes words.now) bytes
+        (Rose (S.faults source.old) (S.faults source.new)) (Rose (K.faults sink.old) (K.faults sink.new))
+        (K.taken sink.old) (K.taken sink.new) result) }
+    ensures leaves { IfSome (S.left source.old) (λ bytes. Leaves bytes (S.left source.new) result) }
+
+    // The points of an answer are the common zeros of the system that was read.
+    ensures solved { result ≡ Status.Chains → IfSome (S.left source.old) (λ bytes.
+        IsSolved VARS bytes (K.taken sink.old) (K.taken sink.new)) }
+
     // Words are no command, and then nothing is read.
-    ensures words { words.now ≢ [] → (result ≡ Status.Usage) ⊎ (result ≡ Status.WriteFault) }
+    ensures words { words.now ≢ [] → (result ≡ Status.Usage) ⊎ ((result ≡ Status.WriteFault) ⊎ (result ≡ Status.OutOfMemory)) }
     ensures usage { result ≡ Status.Usage → words.now ≢ [] }
     ensures unread { words.now ≢ [] → source.new ≡ source.old }
-    ensures usage_line { result ≡ Status.Usage
-        → Appends (K.taken sink.old) (K.taken sink.new) usage_line }
-
-    // Bytes that aren't solved have their line, and an answer is given to all of the bytes.
-    ensures refused_line { result ≡ Status.Refused
-        → Appends (K.taken sink.old) (K.taken sink.new) refused_line }
-    ensures through { result ≡ Status.Refused
-        → IsReadThrough MOST_BYTES (S.left source.old) (S.left source.new) }
-    ensures whole { result ≡ Status.Chains → IsAtEnd (S.left source.new) }
 
     // A fault is answered where its count rose.
     ensures read_fault { result ≡ Status.ReadFault
@@ -50,42 +45,70 @@ pub fn run_alone<S: Source, K: Sink>(
     ensures silent { result ≡ Status.OutOfMemory → sink.new ≡ sink.old }
     ensures never_stopped { result ≢ Status.Stopped }
 {
-    if !words.is_empty() {
-        return written(sink, USAGE, Status::Usage);
-    }
-    let bytes = match read_all(alloc, source, MOST_BYTES) {
-        Ok(Input::Whole(bytes)) => bytes,
-        Ok(Input::TooLong) => return written(sink, REFUSED, Status::Refused),
-        Err(ReadFail::Fault) => return Status::ReadFault,
-        Err(ReadFail::Memory(_)) => return Status::OutOfMemory,
-    };
-    match answer(alloc, &bytes) {
-        Ok(Some(text)) => written(sink, text.as_str(), Status::Chains),
-        Ok(None) => written(sink, REFUSED, Status::Refused),
-        Err(AllocError) => Status::OutOfMemory,
+    match prepared(alloc, words, source) {
+        Ok(answer) => written(sink, &answer),
+        Err(Silence::ReadFault) => Status::ReadFault,
+        Err(Silence::OutOfMemory) => Status::OutOfMemory,
     }
 }
 
-/// The status, where the text is written whole.
-fn written<K: Sink>(sink: &mut K, text: &str, status: Status) -> Status
-    requires { status ≢ Status.WriteFault }
-    ensures either { (result ≡ status) ⊎ (result ≡ Status.WriteFault) }
-    ensures whole { result ≡ status → Appends (K.taken sink.old) (K.taken sink.new) text.now }
-    ensures fault { result ≡ Status.WriteFault → Rose (K.faults sink.old) (K.faults sink.new) }
+/// Why nothing is written.
+#[derive(Clone, Copy, Debug)]
+pub enum Silence {
+    ReadFault,
+    OutOfMemory,
+}
+
+/// What is to be written, by the words and by what is read of the source.
+fn prepared<S: Source>(alloc: Global, words: &[String], source: &mut S) -> Result<Answer, Silence>
+    ensures expected { IfOk result (λ a. IfSome (S.left source.old) (λ bytes.
+        IsExpected VARS (map string_bytes words.now) bytes a)) }
+    ensures leaves { IfOk result (λ a. IfSome (S.left source.old) (λ bytes.
+        Leaves bytes (S.left source.new) a.status)) }
+    ensures status { IfOk result (λ a. IsOfAnswer a.status) }
+    ensures usage { IfOk result (λ a. (a.status ≡ Status.Usage) ↔ (words.now ≢ [])) }
+    ensures unread { words.now ≢ [] → source.new ≡ source.old }
+    ensures words { IsErrOf result Silence.ReadFault → words.now ≡ [] }
+    ensures fault { IsErrOf result Silence.ReadFault → Rose (S.faults source.old) (S.faults source.new) }
 {
-    match write_all(sink, text.as_bytes()) {
-        Ok(()) => status,
+    if words.is_empty() {
+        return read_answer(alloc, source);
+    }
+    match print_usage(alloc, false) {
+        Ok(text) => Ok(Answer {
+            status: Status::Usage,
+            text,
+        }),
+        Err(AllocError) => Err(Silence::OutOfMemory),
+    }
+}
+
+/// What is to be written for what is read of the source.
+fn read_answer<S: Source>(alloc: Global, source: &mut S) -> Result<Answer, Silence>
+    ensures expected { IfOk result (λ a. IfSome (S.left source.old) (λ bytes.
+        IsExpected VARS [] bytes a)) }
+    ensures leaves { IfOk result (λ a. IfSome (S.left source.old) (λ bytes.
+        Leaves bytes (S.left source.new) a.status)) }
+    ensures status { IfOk result (λ a. IsOfText a.status) }
+    ensures fault { IsErrOf result Silence.ReadFault → Rose (S.faults source.old) (S.faults source.new) }
+{
+    let input = match read_all(alloc, source, MOST_BYTES) {
+        Ok(input) => input,
+        Err(ReadFail::Fault) => return Err(Silence::ReadFault),
+        Err(ReadFail::Memory(_)) => return Err(Silence::OutOfMemory),
+    };
+    match answer_to_input(alloc, &input) {
+        Ok(answer) => Ok(answer),
+        Err(AllocError) => Err(Silence::OutOfMemory),
+    }
+}
+
+/// The status of an answer, where its text is written whole.
+fn written<K: Sink>(sink: &mut K, answer: &Answer) -> Status
+    ensures { Writes answer.now (Rose (K.faults sink.old) (K.faults sink.new)) (K.taken sink.old) (K.taken sink.new) result }
+{
+    match write_all(sink, answer.text.as_bytes()) {
+        Ok(()) => answer.status,
         Err(_) => Status::WriteFault,
     }
-}
-
-/// The text of the answer, and `None` where the bytes are no system that is solved yet.
-fn answer(alloc: Global, bytes: &[u8]) -> Result<Option<String>, AllocError> {
-    let Some(system) = read_system(alloc, bytes)? else {
-        return Ok(None);
-    };
-    let Some(divisor) = common_divisor(alloc, system.field, &system.inputs)? else {
-        return Ok(None);
-    };
-    Ok(Some(report(alloc, system.names.at(0).as_str(), &divisor)?))
 }

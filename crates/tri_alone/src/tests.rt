@@ -56,6 +56,15 @@ fn a_system_of_one_variable_has_the_chain_of_its_divisor(rt: HostRuntime) -> Res
             b" prime  7 \norder  Ab \n - 2 * Ab ^ 3+Ab^2-Ab \n",
             b"chain -\npoly Ab^3 + 3*Ab^2 + 4*Ab\nend 1\n",
         ),
+        // A comment, an empty line, parentheses and no last line feed.
+        (
+            b"prime 5\n\n  # c\norder x\n(x + 1)*(x - 1)\nx^2 - 2*x + 1",
+            b"chain -\npoly x + 4\nend 1\n",
+        ),
+        (
+            b"prime 5\norder x\n(x+1)^64*(x^2+1)^2\nx^3+x^2+x+1\n",
+            b"chain -\npoly x^3 + x^2 + x + 1\nend 1\n",
+        ),
         // x^12 - 1 and x^18 - 1 have the divisor x^6 - 1.
         (
             b"prime 65537\norder x\nx^12 - 1\nx^18 - 1\n",
@@ -70,43 +79,64 @@ fn a_system_of_one_variable_has_the_chain_of_its_divisor(rt: HostRuntime) -> Res
 }
 
 #[test]
-fn other_bytes_are_refused(rt: HostRuntime) -> Result<(), Fail> {
-    for text in [
-        b"".as_slice(),
-        b"\n",
-        b"prime 5\n",
-        b"prime 5\norder x",
-        b"prime 5\norder x\n3",
-        b"prime 6\norder x\n",
-        b"prime 05\norder x\n",
-        b"prime 5 5\norder x\n",
-        b"prime5\norder x\n",
-        b"order x\nprime 5\n",
-        b"prime 5\norder\n",
-        b"prime 5\norder x y\nx\n",
-        b"prime 5\norder 2x\n",
-        b"prime 5\norder nonzero\n",
-        b"prime 5\norder x\n\n",
-        b"prime 5\norder x\nx + \n",
-        b"prime 5\norder x\n+ x\n",
-        b"prime 5\norder x\nx - - x\n",
-        b"prime 5\norder x\n2 x\n",
-        b"prime 5\norder x\nx x\n",
-        b"prime 5\norder x\nx*2\n",
-        b"prime 5\norder x\ny 3\n",
-        b"prime 5\norder x\nx^65536\n",
-        b"prime 5\norder x\nx^\n",
-        b"prime 5\norder x\n01\n",
-        b"prime 5\norder x\n1000000000000000000\n",
+fn a_text_that_is_no_system_has_its_refusal(rt: HostRuntime) -> Result<(), Fail> {
+    for (text, written) in [
+        (b"".as_slice(), b"refused 2 line 1 byte 1\n".as_slice()),
+        (b"\n", b"refused 2 line 2 byte 1\n"),
+        (b"prime 5\n", b"refused 4 line 2 byte 1\n"),
+        (b"prime 9\norder x\n", b"refused 3 line 1 byte 7\n"),
+        (
+            b"prime 5\norder a b c d e f g h i\n",
+            b"refused 5 line 2 byte 23\n",
+        ),
+        (b"prime 5\norder x x\n", b"refused 6 line 2 byte 9\n"),
+        (b"prime 5\norder x y\nx + z\n", b"refused 7 line 3 byte 5\n"),
+        (b"prime 5\norder x\nx*", b"refused 8 line 3 byte 3\n"),
+        (b"prime 5\norder x\nx^01\n", b"refused 8 line 3 byte 4\n"),
+        (
+            b"prime 5\norder x\n1000000000000000000*x\n",
+            b"refused 9 line 3 byte 1\n",
+        ),
+        (
+            b"prime 5\norder x\nx^65536\n",
+            b"refused 10 line 3 byte 3\n",
+        ),
+        (
+            b"prime 5\norder x\nx^65535*x\n",
+            b"refused 11 line 3 byte 9\n",
+        ),
+        (b"prime 5\norder x\n\xff\n", b"refused 1 line 3 byte 1\n"),
+        // These are systems that aren't solved yet.
+        (b"prime 5\norder x y\nx\n", b"refused 14\n"),
+        (b"prime 5\norder a b c d e f g h\n", b"refused 14\n"),
     ] {
-        check_run(
-            &rt,
-            rt.alloc(),
-            text,
-            4096,
-            Status::Refused,
-            b"refused 14\n",
-        )?;
+        check_run(&rt, rt.alloc(), text, 4096, Status::Refused, written)?;
+    }
+    Ok(())
+}
+
+/// A system of one polynomial: its variable in `count` pairs of parentheses.
+fn nested(alloc: Global, count: u32) -> Result<Vec<u8>, AllocError> {
+    let mut text = b"prime 5\norder x\n".to_vec(alloc)?;
+    for _ in 0..count {
+        text.push(b'(')?;
+    }
+    text.push(b'x')?;
+    for _ in 0..count {
+        text.push(b')')?;
+    }
+    text.push(b'\n')?;
+    Ok(text)
+}
+
+#[test]
+fn parentheses_nest_up_to_the_limit(rt: HostRuntime) -> Result<(), Fail> {
+    let alloc = rt.alloc();
+    for (count, status, written) in [
+        (64, Status::Chains, b"chain -\npoly x\nend 1\n".as_slice()),
+        (65, Status::Refused, b"refused 12 line 3 byte 65\n"),
+    ] {
+        check_run(&rt, alloc, &nested(alloc, count)?, 4096, status, written)?;
     }
     Ok(())
 }
@@ -133,20 +163,21 @@ fn long_line(alloc: Global, count: u32) -> Result<Vec<u8>, AllocError> {
 #[test]
 fn lines_and_bytes_are_bounded(rt: HostRuntime) -> Result<(), Fail> {
     let alloc = rt.alloc();
-    let refused = b"refused 14\n".as_slice();
+    let unsolved = b"refused 14\n".as_slice();
+    let too_long = b"refused 13\n".as_slice();
     for (text, status, written) in [
         (
             lines(alloc, 9_999)?,
             Status::Chains,
             b"chain -\npoly x\nend 1\n".as_slice(),
         ),
-        (lines(alloc, 10_000)?, Status::Refused, refused),
+        (lines(alloc, 10_000)?, Status::Refused, unsolved),
         (
             long_line(alloc, 1_048_558)?,
             Status::Chains,
             b"chain -\nend 1\n",
         ),
-        (long_line(alloc, 1_048_559)?, Status::Refused, refused),
+        (long_line(alloc, 1_048_559)?, Status::Refused, too_long),
     ] {
         check_run(&rt, alloc, &text, 4096, status, written)?;
     }
@@ -189,19 +220,4 @@ fn a_fault_ends_the_run(rt: HostRuntime) -> Result<(), Fail> {
         assert_eq!(rt; sink.bytes(), written);
     }
     Ok(())
-}
-
-#[test]
-fn statuses_have_their_numbers(rt: HostRuntime) {
-    for (status, number) in [
-        (Status::Chains, 0),
-        (Status::Stopped, 1),
-        (Status::Usage, 2),
-        (Status::Refused, 3),
-        (Status::ReadFault, 4),
-        (Status::WriteFault, 5),
-        (Status::OutOfMemory, 6),
-    ] {
-        assert_eq!(rt; status.number(), number);
-    }
 }

@@ -1,0 +1,5 @@
+mod Ends
+mod Inputs
+mod Named
+mod Outcomes
+mod Solved

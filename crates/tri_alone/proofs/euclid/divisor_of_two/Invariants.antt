@@ -1,7 +1,0 @@
--- The divisor and the rest are polynomials over the field.
-use Rattle.mono_words.specs.declared.mono.TheConstants.{VARS}
-use Rattle.polynomials.specs.Polynomials.{IsPolynomial}
-use Rattle.tri_alone.proofs.euclid.divisor_of_two.Given as goal
-
-abbrev pub invariant-loop : goal.invariant-loop
-invariant-loop l = IsPolynomial l.f VARS l.divisor × IsPolynomial l.f VARS l.rest
