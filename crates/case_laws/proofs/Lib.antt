@@ -1,3 +1,4 @@
+mod Examples
 pub mod Parts
 pub mod Results
 pub mod Reductions

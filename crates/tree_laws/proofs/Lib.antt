@@ -1,3 +1,4 @@
+mod Examples
 pub mod Some
 pub mod Joined
 pub mod Cover

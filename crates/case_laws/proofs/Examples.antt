@@ -1,0 +1,87 @@
+-- The words of the laws, tried on the system of x y modulo 5.
+use Rattle.std.proofs.Common.{◌≡◌, ℕ, zero, suc, ◌≤◌, [], ◌∷◌, None, refl, lit≤, arith}
+use Rattle.polynomials.specs.Primes.{IsPrime}
+use Rattle.polynomials.specs.Polynomials.{Polynomial, term}
+use Rattle.polynomials.specs.Views.{degree_in}
+use Rattle.polynomials.proofs.ExponentsBelow.{degree_in-past}
+use Rattle.zero_sets.specs.Tasks.{InTask}
+use Rattle.zero_sets.specs.ZeroSets.{InQuasiComponent}
+use Rattle.zero_sets.proofs.PrimeFields.{residue_tables}
+use Rattle.case_rules.specs.Cases.{root_task}
+use Rattle.case_laws.specs.Lawful.{IsLawfulPolynomial, IsLawfulChain, IsLawfulTask}
+use Rattle.case_laws.specs.Laws.{IsInZeroSet, answer_to}
+use Rattle.case_laws.proofs.AnswersOfSystems.{answers_are_sound}
+
+abbrev x : Polynomial
+x = term (1 ∷ 0 ∷ []) 1 ∷ []
+
+abbrev y : Polynomial
+y = term (0 ∷ 1 ∷ []) 1 ∷ []
+
+abbrev x_y : Polynomial
+x_y = term (1 ∷ 1 ∷ []) 1 ∷ []
+
+-- x to the power e, in one variable
+abbrev power : ℕ → Polynomial
+power e = term (e ∷ []) 1 ∷ []
+
+-- x y is lawful in two variables
+product_lawful : IsLawfulPolynomial 5 2 2 x_y
+product_lawful = record {
+  canonical = (refl, lit≤ tt, lit≤ tt, tt, tt);
+  named = λ v past. degree_in-past 5 2 v x_y past (refl, lit≤ tt, lit≤ tt, tt, tt);
+  small = small;
+}
+  where
+    small : (v : ℕ) → degree_in v x_y ≤ 65535
+    small zero = omega arith
+    small (suc zero) = omega arith
+    small (suc (suc v)) = omega arith
+
+-- but not where x alone is named
+without_y : IsLawfulPolynomial 5 2 1 x_y → ⊥
+without_y lawful = let none = lawful.named 1 (lit≤ tt) in omega arith
+
+-- the greatest power, and one that is past the limit
+greatest_power : IsLawfulPolynomial 5 1 1 (power 65535)
+greatest_power = record {
+  canonical = (refl, lit≤ tt, lit≤ tt, tt, tt);
+  named = λ v past. degree_in-past 5 1 v (power 65535) past (refl, lit≤ tt, lit≤ tt, tt, tt);
+  small = small;
+}
+  where
+    small : (v : ℕ) → degree_in v (power 65535) ≤ 65535
+    small zero = omega arith
+    small (suc v) = omega arith
+
+power_past : IsLawfulPolynomial 5 1 1 (power 65536) → ⊥
+power_past lawful = let high : 65536 ≤ 65535 = lawful.small 0 in omega arith
+
+-- the root is lawful
+root_lawful : IsLawfulTask 5 2 2 (root_task (x_y ∷ []))
+root_lawful = record {
+  chain = record { lawful = tt; triangular = tt };
+  queue = (product_lawful, tt);
+  nonzero = tt;
+}
+
+-- and has the point x = 0, y = 3
+root_has : InTask (residue_tables 5) (0 ∷ 3 ∷ []) (root_task (x_y ∷ []))
+root_has = ((tt, tt), (refl, tt), tt)
+
+-- which the second triangular set of the answer has, and the first hasn't
+second_has : InQuasiComponent (residue_tables 5) (0 ∷ 3 ∷ []) (x ∷ [])
+second_has = ((refl, tt), ((λ none. cc), tt))
+
+first_has_not : InQuasiComponent (residue_tables 5) (0 ∷ 3 ∷ []) (y ∷ []) → ⊥
+first_has_not inside = let zero_y = inside.0.0 in cc
+
+answer : answer_to 5 2 100000 10000 (x_y ∷ []) ≡ record { chains = ((1 ∷ []), (y ∷ [])) ∷ ((2 ∷ []), (x ∷ [])) ∷ []; stop = None }
+answer = refl
+
+-- the first is lawful, and its points are zeros of x y
+first_lawful : IsPrime 5 → IsLawfulChain 5 2 2 (y ∷ [])
+first_lawful prime = (answers_are_sound 5 2 2 100000 10000 (x_y ∷ []) prime (product_lawful, tt)).lawful ((1 ∷ []), (y ∷ [])) (0, omega arith, refl)
+
+first_sound : IsPrime 5 → IsInZeroSet 5 (x_y ∷ []) (y ∷ [])
+first_sound prime = (answers_are_sound 5 2 2 100000 10000 (x_y ∷ []) prime (product_lawful, tt)).sound ((1 ∷ []), (y ∷ [])) (0, omega arith, refl)
