@@ -12,3 +12,4 @@ pub mod SkippedLines
 pub mod NewNames
 pub mod OtherPrimes
 pub mod MoreInputs
+pub mod AcceptedTexts

@@ -1,6 +1,8 @@
-ghost use Rattle.std.specs.Prelude.{◌≡◌, ◌≤◌, length, IfOk};
+ghost use Rattle.std.specs.Prelude.{◌≡◌, ◌≤◌, length, IfOk, Ok};
 ghost use Rattle.polynomials.specs.Polynomials.{ArePolynomials};
-ghost use Rattle.system_text.specs.Lines.{first_not_text, is_skipped, read_content, read_line, read_text, text_ends};
+ghost use Rattle.system_text.specs.Lines.{first_not_text, is_skipped, read_content, read_line, read_text, text_ends, TextSystem};
+ghost use Rattle.system_text.specs.Systems.{IsSystemText};
+ghost use Rattle.system_text.specs.Laws.{IsSystem};
 ghost use Rattle.system_parser.specs.Answers.{Gives, Reads};
 ghost use Rattle.system_parser.specs.Systems.{text_system_of, progress_of, IsProgress};
 
@@ -23,8 +25,25 @@ enum Progress {
     AtSums(System),
 }
 
-/// Reads a text as a system.
+/// Reads a text as a system, or meets the first place at which it is none.
 pub fn parse(alloc: Global, bytes: &[u8]) -> Result<System, ParseFault>
+    requires { length bytes.now ≤ 1_048_576 }
+    ensures exact { Reads text_system_of result (read_text VARS bytes.now) }
+
+    // What is accepted is a system's text, and each text of a system is accepted as that system.
+    ensures accepted { IfOk result (λ s. IsSystemText VARS bytes.now (text_system_of s)) }
+    ensures complete { (t : TextSystem) → IsSystemText VARS bytes.now t →
+        Reads text_system_of result (Ok t) }
+
+    // What is accepted is a system.
+    ensures lawful { IfOk result (λ s. IsSystem VARS (text_system_of s)) }
+    ensures over { IfOk result (λ s. ArePolynomials s.field VARS s.inputs) }
+{
+    read_lines(alloc, bytes)
+}
+
+/// Reads a text line by line.
+fn read_lines(alloc: Global, bytes: &[u8]) -> Result<System, ParseFault>
     requires { length bytes.now ≤ 1_048_576 }
     ensures exact { Reads text_system_of result (read_text VARS bytes.now) }
     ensures over { IfOk result (λ s. ArePolynomials s.field VARS s.inputs) }

@@ -3,7 +3,7 @@ use Rattle.std.proofs.Common.{◌≡◌, ◌+◌, ◌≤◌, length}
 use Rattle.mono_words.specs.declared.mono.TheConstants.{VARS}
 use Rattle.system_text.specs.Lines.{read_lines, read_text}
 use Rattle.system_parser.specs.Systems.{progress_of, IsProgress}
-use Rattle.system_parser.proofs.text.parse.Given as goal
+use Rattle.system_parser.proofs.text.read_lines.Given as goal
 
 abbrev pub invariant-loop-line : goal.invariant-loop-line
 invariant-loop-line l = record {
