@@ -1,0 +1,4 @@
+pub mod Takings
+pub mod MemberSteps
+pub mod Changes
+pub mod MonicTests
