@@ -130,6 +130,59 @@ fn quotients_fit_up_to_the_width(rt: HostRuntime) -> Result<(), Fail> {
     Ok(())
 }
 
+#[test]
+fn products_that_cancel_leave_no_term(rt: HostRuntime) -> Result<(), Fail> {
+    let alloc = rt.alloc();
+    let field = Field::of(5)?;
+    // The two products with the monomial x^2*y are opposite, and the dividend doesn't have it.
+    let cubes = [(0, 3, 1), (3, 0, 4)];
+    let squares = [(0, 2, 1), (1, 1, 1), (2, 0, 1)];
+    let y_plus_four_x = [(0, 1, 1), (1, 0, 4)];
+    let w = Work { field, width: 100 };
+    assert!(rt; gives(alloc, w, &cubes, &squares, Some(&y_plus_four_x))?);
+    assert!(rt; gives(alloc, w, &cubes, &y_plus_four_x, Some(&squares))?);
+    Ok(())
+}
+
+#[test]
+fn a_quotient_may_have_many_more_terms(rt: HostRuntime) -> Result<(), Fail> {
+    let alloc = rt.alloc();
+    let field = Field::of(5)?;
+    // The powers of x below the 40th, times x + 4, make x^40 + 4.
+    let mut powers = Vec::new(alloc);
+    for e in 0..40 {
+        powers.push((e, 0, 1))?;
+    }
+    let power = [(40, 0, 1), (0, 0, 4)];
+    let x_plus_four = [(1, 0, 1), (0, 0, 4)];
+    let w = Work { field, width: 80 };
+    assert!(rt; gives(alloc, w, &power, &x_plus_four, Some(&powers))?);
+    let w = Work { field, width: 79 };
+    assert!(rt; gives(alloc, w, &power, &x_plus_four, None)?);
+    Ok(())
+}
+
+#[test]
+fn exponents_reach_the_greatest_one(rt: HostRuntime) -> Result<(), Fail> {
+    let alloc = rt.alloc();
+    let field = Field::of(5)?;
+    let w = Work { field, width: 100 };
+    let greatest = [(65535, 0, 1)];
+    let x_plus_one = [(1, 0, 1), (0, 0, 1)];
+    let y_plus_one = [(0, 1, 1), (0, 0, 1)];
+    let both = [(65535, 1, 1), (65535, 0, 1)];
+    assert!(rt; gives(alloc, w, &greatest, &greatest, Some(&[(0, 0, 1)]))?);
+    assert!(rt; gives(alloc, w, &both, &y_plus_one, Some(&greatest))?);
+    assert!(rt; gives(alloc, w, &both, &greatest, Some(&y_plus_one))?);
+    let multiple = [(65535, 0, 1), (65534, 0, 1)];
+    assert!(rt; gives(alloc, w, &multiple, &x_plus_one, Some(&[(65534, 0, 1)]))?);
+    // The quotient has 65,535 terms.
+    assert!(rt; gives(alloc, w, &[(65535, 0, 1), (0, 0, 1)], &x_plus_one, None)?);
+    // The first terms divide, but the divisor has a greater degree in x.
+    assert!(rt; gives(alloc, w, &[(0, 2, 1)], &[(0, 1, 1), (65535, 0, 1)], None)?);
+    Ok(())
+}
+
 /// Whether `a` without two factors is `rest`.
 fn leaves(
     alloc: Global,
@@ -169,5 +222,17 @@ fn factors_are_removed_as_often_as_they_divide(rt: HostRuntime) -> Result<(), Fa
     );
     assert!(rt; leaves(alloc, &[(2, 0, 1), (1, 0, 1)], &x_plus_one, &x_plus_two, &x)?);
     assert!(rt; leaves(alloc, &[(1, 0, 2)], &three, &three, &[(1, 0, 2)])?);
+    Ok(())
+}
+
+#[test]
+fn a_factor_stays_where_its_quotient_is_too_wide(rt: HostRuntime) -> Result<(), Fail> {
+    let alloc = rt.alloc();
+    let field = Field::of(5)?;
+    let mut list = Polys::new(alloc);
+    list.push(poly(alloc, field, &[(1, 0, 1)])?)?;
+    let a = poly(alloc, field, &[(2, 0, 1), (1, 0, 4)])?;
+    let left = strip(alloc, Work { field, width: 1 }, &a, &list)?;
+    assert!(rt; left == a);
     Ok(())
 }

@@ -1,26 +1,38 @@
 -- Polynomials as rows without cofactors.
-use Rattle.std.proofs.Common.{◌≡◌, ◌+◌, ℕ, List, [], ◌∷◌, ◌++◌, drop, length, Some, refl, sym, ap, ◌∙◌, append_assoc}
+use Rattle.std.proofs.Common.{◌≡◌, ◌-◌, ℕ, zero, suc, true, false, List, [], ◌∷◌, length, Option, Some, None, IfSome, option_map, refl, sym, ap}
 use Rattle.std.specs.List.{slice_get}
-use Rattle.polynomials.specs.Polynomials.{Polynomial, ArePolynomials}
-use Rattle.division_rules.specs.Rows.{Row, plain, plains}
+use Rattle.polynomials.specs.Primes.{IsPrime}
+use Rattle.polynomials.specs.Polynomials.{Polynomial, IsPolynomial, ArePolynomials}
+use Rattle.division_rules.specs.Operations.{Operations}
+use Rattle.division_rules.specs.Rows.{Row, plain, plains, is_reduced_by}
 use Rattle.division_rules.specs.Chains.{EachRow}
+use Rattle.division_rules.specs.Lists.{list_operations}
 use Rattle.division_rules.specs.PolynomialRows.{ArePolynomialRows}
-use Rattle.pseudo_division.proofs.Lists.{drop_at}
-
--- one more polynomial
-pub plains_more : (fs : List Polynomial) (out longer : List (Row Polynomial)) (i : ℕ) (f : Polynomial) (r : Row Polynomial) → slice_get fs i ≡ Some f → r ≡ plain f → longer ≡ out ++ r ∷ [] → out ++ plains (drop i fs) ≡ plains fs → longer ++ plains (drop (i + 1) fs) ≡ plains fs
-plains_more fs out longer i f r at same is whole =
-    ap (λ zs. zs ++ plains (drop (i + 1) fs)) is
-    ∙ (append_assoc out (r ∷ []) (plains (drop (i + 1) fs))
-    ∙ (ap (λ z. out ++ (z ∷ plains (drop (i + 1) fs))) same
-    ∙ (ap (λ zs. out ++ plains zs) (sym (drop_at fs i f at)) ∙ whole)))
+use Rattle.division_rules.specs.Triangular.{AreTriangular, HasLessDegree}
+use Rattle.division_rules.specs.Within.{and_then, elimination_within, sparse_remainder_by_within, sparse_remainder_within, reduction_within}
+use Rattle.pseudo_division.proofs.CombinationResults.{less_than_members}
 
 -- they are canonical where the polynomials are
 pub plains_canonical : (p n : ℕ) (fs : List Polynomial) → ArePolynomials p n fs → ArePolynomialRows p n (plains fs)
 plains_canonical p n [] are = tt
 plains_canonical p n (f ∷ fs) are = ((are.0, tt), plains_canonical p n fs are.1)
 
--- and have no cofactors
-pub plains_cofactors : (fs : List Polynomial) → EachRow (λ t. length t.cofactors ≡ 0) (plains fs)
-plains_cofactors [] = tt
-plains_cofactors (f ∷ fs) = (refl, plains_cofactors fs)
+-- the row at a place is that of the polynomial there
+pub plains-at : (fs : List Polynomial) (i : ℕ) (f : Polynomial) → slice_get fs i ≡ Some f → slice_get (plains fs) i ≡ Some (plain f)
+plains-at [] i f e = cc
+plains-at (g ∷ fs) zero f e = let same : g ≡ f = cc in ap (λ x. Some (plain x)) same
+plains-at (g ∷ fs) (suc i) f e = plains-at fs i f e
+
+-- there are as many
+pub length-plains : (fs : List Polynomial) → length (plains fs) ≡ length fs
+length-plains [] = refl
+length-plains (f ∷ fs) = ap suc (length-plains fs)
+
+-- where no elimination is left, a row is its own sparse remainder
+pub reduced_stays : {A : Type 0} (o : Operations A) (w v : ℕ) (f g : Row A) → is_reduced_by o v g f ≡ true → sparse_remainder_within o w v f g ≡ Some f
+reduced_stays {A} o w v f g reduced = ap (λ b. elim b as (λ _. Option (Row A)) [ true ↦ Some f | false ↦ and_then (elimination_within o w v f g) (λ x. sparse_remainder_by_within o w v g (o.views.degree v f.first - o.views.degree v g.first) x) ]) reduced
+
+-- the reduction of a polynomial by others is reduced by each
+pub plain_reduced : (p n w : ℕ) → IsPrime p → (fs : List Polynomial) (f : Polynomial) (r : Option Polynomial) → ArePolynomials p n fs → IsPolynomial p n f → AreTriangular (plains fs) → option_map plain r ≡ reduction_within (list_operations p n) w (plains fs) (plain f) → IfSome r (λ h. EachRow (HasLessDegree h) (plains fs))
+plain_reduced p n w prime fs f None are i triangular e = tt
+plain_reduced p n w prime fs f (Some h) are i triangular e = less_than_members p n prime w (plains fs) (plain f) (plain h) (plains_canonical p n fs are) (i, tt) triangular (sym e)

@@ -1,18 +1,11 @@
--- The rows are canonical, and have no cofactors.
-use Rattle.std.proofs.Common.{◌≡◌, List, length, sym, subst}
+-- What is said of a reduction follows from what it is.
 use Rattle.mono_words.specs.declared.mono.TheConstants.{VARS}
-use Rattle.polynomials.specs.Polynomials.{Polynomial}
-use Rattle.division_rules.specs.Rows.{Row, plains}
-use Rattle.division_rules.specs.Chains.{EachRow}
-use Rattle.division_rules.specs.PolynomialRows.{ArePolynomialRows}
-use Rattle.pseudo_division.proofs.PlainRows.{plains_canonical, plains_cofactors}
+use Rattle.sparse_poly.proofs.SortedTerms.{IfOk-implied}
+use Rattle.pseudo_division.proofs.PlainRows.{plain_reduced}
 use Rattle.pseudo_division.proofs.plain.reduce.Goals as goal
 
-pub reduce_rows-requires-clause-chain : goal.reduce_rows-requires-clause-chain
-reduce_rows-requires-clause-chain c = subst (ArePolynomialRows c.args.w.field VARS) (sym c.in_ok-rows.ensures) (plains_canonical c.args.w.field VARS c.args.by.now c.requires.chain)
-
-pub reduce_rows-requires-clause-cofactors : goal.reduce_rows-requires-clause-cofactors
-reduce_rows-requires-clause-cofactors c =
-    subst (λ (rows : List (Row Polynomial)). EachRow (λ t. length t.cofactors ≡ length c.in_ok-row.row.cofactors) rows) (sym c.in_ok-rows.ensures)
-    (subst (λ (r : Row Polynomial). EachRow (λ t. length t.cofactors ≡ length r.cofactors) (plains c.args.by.now)) (sym c.in_ok-row.ensures)
-    (plains_cofactors c.args.by.now))
+pub returns-clause-reduced : goal.returns-clause-reduced
+returns-clause-reduced c =
+    IfOk-implied _ _ c.reduced.result
+    (λ r. plain_reduced c.args.w.field VARS c.args.w.width c.prime.ensures.prime c.args.by.now c.args.f.now r c.requires.chain c.requires.over c.requires.triangular)
+    c.reduced.ensures.value
