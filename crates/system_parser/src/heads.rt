@@ -36,7 +36,8 @@ pub fn read_prime(line: &[u8]) -> Result<Field, Fault>
 
 fn prime_of(t: &Placed<'_>, tokens: &mut Cursor<'_>) -> Result<Field, Fault>
     requires { IsSpelled (token_of t.now.token) }
-    ensures { Answers (λ f. f) result (prime_number (placed_of t.now) (token_of t.now.token) tokens.old) }
+    ensures { Answers (λ f. f) result
+        (prime_number (placed_of t.now) (token_of t.now.token) tokens.old) }
 {
     match t.token {
         Token::Number(digits) => prime_number(t, digits, tokens),
@@ -46,7 +47,8 @@ fn prime_of(t: &Placed<'_>, tokens: &mut Cursor<'_>) -> Result<Field, Fault>
 
 fn prime_number(t: &Placed<'_>, digits: &[u8], tokens: &mut Cursor<'_>) -> Result<Field, Fault>
     requires { AllDigits 10 digits.now }
-    ensures { Answers (λ f. f) result (prime_number (placed_of t.now) (TextToken.Number digits.now) tokens.old) }
+    ensures { Answers (λ f. f) result
+        (prime_number (placed_of t.now) (TextToken.Number digits.now) tokens.old) }
 {
     let Some(p) = number_of(digits) else {
         return Err(Fault {

@@ -3,6 +3,7 @@
 
 mod characters;
 mod errors;
+mod factors;
 mod faults;
 mod frames;
 mod heads;
@@ -16,3 +17,6 @@ mod tokens;
 
 pub use errors::{ParseError, ParseFault};
 pub use text::parse;
+
+#[cfg(test)]
+mod tests;

@@ -1,9 +1,6 @@
-ghost use Rattle.std.specs.Prelude.{◌≡◌, ◌≤◌, ℕ, length, IfOk, IfSome, OnOk};
-ghost use Rattle.std.specs.Str.Parse.{AllDigits};
+ghost use Rattle.std.specs.Prelude.{◌≡◌, ◌≤◌, ℕ, length, IfOk, OnOk};
 ghost use Rattle.polynomials.specs.Polynomials.{IsPolynomial};
-ghost use Rattle.polynomials.specs.Fits.{power_within};
-ghost use Rattle.system_text.specs.Limits.{text_width};
-ghost use Rattle.system_text.specs.Sums.{start, times_within, variable_at, number_base, opened_at, at_factor, at_sum, closed_at, next_term, after_factor, after_factor_at, after_bare, after_base_token, raised, exponent_at, at_exponent, step, ended_with, ended, read_sum, place_of_name};
+ghost use Rattle.system_text.specs.Sums.{start, opened_at, at_sum, closed_at, next_term, after_factor, after_bare, after_base_token, step, ended_with, ended, read_sum};
 ghost use Rattle.system_parser.specs.Tokens.{token_of, placed_of, IsSpelled};
 ghost use Rattle.system_parser.specs.Answers.{Gives};
 ghost use Rattle.system_parser.specs.Sums.{frame_of, frames_of, reading_of, IsReading};
@@ -11,18 +8,12 @@ ghost use Rattle.system_parser.specs.Systems.{setting_over};
 
 use crate::faults::{Fault, LineFault};
 use crate::frames::Frame;
-use crate::names::place_of;
-use crate::numbers::number_of;
-use crate::powers::{power, product};
 use crate::tokens::{Cursor, Placed, Token};
 use item_lists::Items;
-use mono_words::{Mono, VARS};
+use mono_words::VARS;
 use sparse_poly::{Poly, System};
-use std::alloc::{AllocError, Global};
+use std::alloc::Global;
 use std::mem;
-
-// The greatest exponent of a name or a number.
-const MOST_EXPONENT: u16 = 65_535;
 
 // The greatest exponent of a parenthesis.
 const MOST_POWER: u16 = 64;
@@ -59,11 +50,11 @@ pub enum Mode {
 /// The sums that are open, and where the reading stands in the innermost.
 #[derive(Debug, Drop)]
 pub struct Reading {
-    alloc: Global,
+    pub alloc: Global,
     /// The sums round this one, the innermost first.
-    outer: Items<Frame>,
-    frame: Frame,
-    mode: Mode,
+    pub outer: Items<Frame>,
+    pub frame: Frame,
+    pub mode: Mode,
 }
 
 /// Reads a line as a sum over the field and the names of a system.
@@ -118,7 +109,8 @@ impl Reading {
         requires reading { IsReading over.now.field self.old }
         requires spelled { IsSpelled (token_of t.now.token) }
         ensures state { Gives (λ _. reading_of over.now.field self.new) result
-            (at_sum (setting_over over.now) (frames_of over.now.field self.old.outer) (frame_of over.now.field self.old.frame) (placed_of t.now) (token_of t.now.token)) }
+            (at_sum (setting_over over.now) (frames_of over.now.field self.old.outer)
+            (frame_of over.now.field self.old.frame) (placed_of t.now) (token_of t.now.token)) }
         ensures reading { OnOk result (IsReading over.now.field self.new) }
     {
         match t.token {
@@ -131,76 +123,11 @@ impl Reading {
         }
     }
 
-    fn at_factor(&mut self, over: &System, t: &Placed<'_>) -> Result<(), LineFault>
-        requires names { length over.now.names ≤ VARS }
-        requires reading { IsReading over.now.field self.old }
-        requires spelled { IsSpelled (token_of t.now.token) }
-        ensures state { Gives (λ _. reading_of over.now.field self.new) result
-            (at_factor (setting_over over.now) (frames_of over.now.field self.old.outer) (frame_of over.now.field self.old.frame) (placed_of t.now) (token_of t.now.token)) }
-        ensures reading { OnOk result (IsReading over.now.field self.new) }
-    {
-        match t.token {
-            Token::Name(name) => self.variable(over, t, name),
-            Token::Number(digits) => self.number(over, t, digits),
-            Token::Open => self.open(over, t),
-            _ => Err(LineFault::Refused(Fault::misplaced(8, t))),
-        }
-    }
-
-    fn variable(&mut self, over: &System, t: &Placed<'_>, name: &[u8]) -> Result<(), LineFault>
-        requires names { length over.now.names ≤ VARS }
+    pub fn open(&mut self, over: &System, t: &Placed<'_>) -> Result<(), LineFault>
         requires reading { IsReading over.now.field self.old }
         ensures state { Gives (λ _. reading_of over.now.field self.new) result
-            (variable_at (setting_over over.now) (frames_of over.now.field self.old.outer) (frame_of over.now.field self.old.frame) (placed_of t.now) (place_of_name 0 (setting_over over.now).names name.now)) }
-        ensures reading { OnOk result (IsReading over.now.field self.new) }
-    {
-        match place_of(&over.names, name) {
-            None => Err(LineFault::Refused(Fault {
-                number: 7,
-                byte: t.first,
-            })),
-            Some(v) => {
-                // Tells that 1 is a residue.
-                let _ = over.field.prime();
-                let value = Poly::from_terms(self.alloc, over.field, &[(Mono::power(v, 1), 1)])?;
-                self.mode = Mode::AfterBase(Base {
-                    value,
-                    last: t.last,
-                    most: MOST_EXPONENT,
-                });
-                Ok(())
-            }
-        }
-    }
-
-    fn number(&mut self, over: &System, t: &Placed<'_>, digits: &[u8]) -> Result<(), LineFault>
-        requires reading { IsReading over.now.field self.old }
-        requires digits { AllDigits 10 digits.now }
-        ensures state { Gives (λ _. reading_of over.now.field self.new) result
-            (number_base (setting_over over.now) (frames_of over.now.field self.old.outer) (frame_of over.now.field self.old.frame) (placed_of t.now) digits.now) }
-        ensures reading { OnOk result (IsReading over.now.field self.new) }
-    {
-        match number_of(digits) {
-            None => Err(LineFault::Refused(Fault {
-                number: 9,
-                byte: t.first,
-            })),
-            Some(n) => {
-                let value = Poly::constant(self.alloc, over.field, over.field.residue(n))?;
-                self.mode = Mode::AfterBase(Base {
-                    value,
-                    last: t.last,
-                    most: MOST_EXPONENT,
-                });
-                Ok(())
-            }
-        }
-    }
-
-    fn open(&mut self, over: &System, t: &Placed<'_>) -> Result<(), LineFault>
-        requires reading { IsReading over.now.field self.old }
-        ensures state { Gives (λ _. reading_of over.now.field self.new) result
-            (opened_at (setting_over over.now) (frames_of over.now.field self.old.outer) (frame_of over.now.field self.old.frame) (placed_of t.now)) }
+            (opened_at (setting_over over.now) (frames_of over.now.field self.old.outer)
+            (frame_of over.now.field self.old.frame) (placed_of t.now)) }
         ensures reading { OnOk result (IsReading over.now.field self.new) }
     {
         if self.outer.count() >= MOST_DEPTH {
@@ -220,7 +147,9 @@ impl Reading {
         requires over { IsPolynomial over.now.field VARS base.value }
         requires spelled { IsSpelled (token_of t.now.token) }
         ensures state { Gives (λ _. reading_of over.now.field self.new) result
-            (after_base_token (setting_over over.now) (frames_of over.now.field self.old.outer) (frame_of over.now.field self.old.frame) base.value base.last base.most (placed_of t.now) (token_of t.now.token)) }
+            (after_base_token (setting_over over.now) (frames_of over.now.field self.old.outer)
+            (frame_of over.now.field self.old.frame)
+            base.value base.last base.most (placed_of t.now) (token_of t.now.token)) }
         ensures reading { OnOk result (IsReading over.now.field self.new) }
     {
         match t.token {
@@ -238,7 +167,8 @@ impl Reading {
         requires over { IsPolynomial over.now.field VARS base.value }
         requires spelled { IsSpelled (token_of t.now.token) }
         ensures state { Gives (λ _. reading_of over.now.field self.new) result
-            (after_bare (setting_over over.now) (frames_of over.now.field self.old.outer) (frame_of over.now.field self.old.frame) base.value base.last (placed_of t.now)) }
+            (after_bare (setting_over over.now) (frames_of over.now.field self.old.outer)
+            (frame_of over.now.field self.old.frame) base.value base.last (placed_of t.now)) }
         ensures reading { OnOk result (IsReading over.now.field self.new) }
     {
         match self.times(over, base.value)? {
@@ -247,20 +177,6 @@ impl Reading {
                 byte: base.last,
             })),
             Some(product) => self.after_factor(over, product, t),
-        }
-    }
-
-    /// The product of the term with one more factor, where it fits.
-    fn times(&self, over: &System, value: Poly) -> Result<Option<Poly>, AllocError>
-        requires reading { IsReading over.now.field self.now }
-        requires over { IsPolynomial over.now.field VARS value }
-        ensures value { IfOk result (λ r. r ≡
-            times_within over.now.field self.now.frame.product value) }
-        ensures over { IfOk result (λ r. IfSome r (IsPolynomial over.now.field VARS)) }
-    {
-        match &self.frame.product {
-            None => Ok(Some(value)),
-            Some(earlier) => product(over.field, earlier, &value),
         }
     }
 
@@ -274,7 +190,9 @@ impl Reading {
         requires over { IsPolynomial over.now.field VARS product }
         requires spelled { IsSpelled (token_of t.now.token) }
         ensures state { Gives (λ _. reading_of over.now.field self.new) result
-            (after_factor (setting_over over.now) (frames_of over.now.field self.old.outer) (frame_of over.now.field self.old.frame) product (placed_of t.now) (token_of t.now.token)) }
+            (after_factor (setting_over over.now) (frames_of over.now.field self.old.outer)
+            (frame_of over.now.field self.old.frame)
+            product (placed_of t.now) (token_of t.now.token)) }
         ensures reading { OnOk result (IsReading over.now.field self.new) }
     {
         match t.token {
@@ -299,7 +217,8 @@ impl Reading {
         requires reading { IsReading over.now.field self.old }
         requires over { IsPolynomial over.now.field VARS product }
         ensures state { Gives (λ _. reading_of over.now.field self.new) result
-            (next_term (setting_over over.now) (frames_of over.now.field self.old.outer) (frame_of over.now.field self.old.frame) is_negative product) }
+            (next_term (setting_over over.now) (frames_of over.now.field self.old.outer)
+            (frame_of over.now.field self.old.frame) is_negative product) }
         ensures reading { OnOk result (IsReading over.now.field self.new) }
     {
         self.frame.end_term(over.field, &product)?;
@@ -314,7 +233,8 @@ impl Reading {
         requires reading { IsReading over.now.field self.old }
         requires over { IsPolynomial over.now.field VARS product }
         ensures state { Gives (λ _. reading_of over.now.field self.new) result
-            (closed_at (setting_over over.now) (frames_of over.now.field self.old.outer) (frame_of over.now.field self.old.frame) (placed_of t.now) product) }
+            (closed_at (setting_over over.now) (frames_of over.now.field self.old.outer)
+            (frame_of over.now.field self.old.frame) (placed_of t.now) product) }
         ensures reading { OnOk result (IsReading over.now.field self.new) }
     {
         match self.outer.take_first() {
@@ -328,86 +248,6 @@ impl Reading {
                     last: t.last,
                     most: MOST_POWER,
                 });
-                Ok(())
-            }
-        }
-    }
-
-    fn at_exponent(&mut self, over: &System, base: Base, t: &Placed<'_>) -> Result<(), LineFault>
-        requires reading { IsReading over.now.field self.old }
-        requires over { IsPolynomial over.now.field VARS base.value }
-        requires spelled { IsSpelled (token_of t.now.token) }
-        ensures state { Gives (λ _. reading_of over.now.field self.new) result
-            (at_exponent (setting_over over.now) (frames_of over.now.field self.old.outer) (frame_of over.now.field self.old.frame) base.value base.most (placed_of t.now) (token_of t.now.token)) }
-        ensures reading { OnOk result (IsReading over.now.field self.new) }
-    {
-        match t.token {
-            Token::Number(digits) => self.exponent(over, base, t, digits),
-            _ => Err(LineFault::Refused(Fault::misplaced(8, t))),
-        }
-    }
-
-    fn exponent(
-        &mut self,
-        over: &System,
-        base: Base,
-        t: &Placed<'_>,
-        digits: &[u8],
-    ) -> Result<(), LineFault>
-        requires reading { IsReading over.now.field self.old }
-        requires over { IsPolynomial over.now.field VARS base.value }
-        requires digits { AllDigits 10 digits.now }
-        ensures state { Gives (λ _. reading_of over.now.field self.new) result
-            (exponent_at (setting_over over.now) (frames_of over.now.field self.old.outer) (frame_of over.now.field self.old.frame) base.value base.most (placed_of t.now) digits.now) }
-        ensures reading { OnOk result (IsReading over.now.field self.new) }
-    {
-        match number_of(digits) {
-            None => Err(LineFault::Refused(Fault {
-                number: 9,
-                byte: t.first,
-            })),
-            Some(e) => if e > base.most as u64 {
-                Err(LineFault::Refused(Fault {
-                    number: 10,
-                    byte: t.first,
-                }))
-            } else {
-                self.raise(over, base.value, e as u16, t.last)
-            }
-        }
-    }
-
-    /// The power of a base becomes one more factor.
-    fn raise(&mut self, over: &System, value: Poly, e: u16, last: u32) -> Result<(), LineFault>
-        requires reading { IsReading over.now.field self.old }
-        requires over { IsPolynomial over.now.field VARS value }
-        ensures state { Gives (λ _. reading_of over.now.field self.new) result
-            (raised (setting_over over.now) (frames_of over.now.field self.old.outer) (frame_of over.now.field self.old.frame) last (power_within over.now.field VARS text_width value e)) }
-        ensures reading { OnOk result (IsReading over.now.field self.new) }
-    {
-        match power(self.alloc, over.field, value, e)? {
-            None => Err(LineFault::Refused(Fault {
-                number: 11,
-                byte: last,
-            })),
-            Some(power) => self.factor(over, power, last),
-        }
-    }
-
-    fn factor(&mut self, over: &System, value: Poly, last: u32) -> Result<(), LineFault>
-        requires reading { IsReading over.now.field self.old }
-        requires over { IsPolynomial over.now.field VARS value }
-        ensures state { Gives (λ _. reading_of over.now.field self.new) result
-            (after_factor_at (frames_of over.now.field self.old.outer) (frame_of over.now.field self.old.frame) last (times_within over.now.field self.old.frame.product value)) }
-        ensures reading { OnOk result (IsReading over.now.field self.new) }
-    {
-        match self.times(over, value)? {
-            None => Err(LineFault::Refused(Fault {
-                number: 11,
-                byte: last,
-            })),
-            Some(product) => {
-                self.mode = Mode::AfterFactor(product);
                 Ok(())
             }
         }
@@ -441,7 +281,8 @@ impl Reading {
         requires reading { IsReading over.now.field self }
         requires product { IsPolynomial over.now.field VARS product }
         ensures value { Gives (λ f. f) result (ended_with (setting_over over.now)
-            (frames_of over.now.field self.outer) (frame_of over.now.field self.frame) end product) }
+            (frames_of over.now.field self.outer)
+            (frame_of over.now.field self.frame) end product) }
         ensures over { IfOk result (IsPolynomial over.now.field VARS) }
     {
         if !self.outer.is_empty() {
