@@ -4,6 +4,7 @@ pub mod ChainTurns
 pub mod Tokens
 pub mod Trees
 pub mod PowerValues
+pub mod NamePlaces
 pub mod TreeValues
 pub mod TreeLimits
 pub mod Spelling

@@ -1,13 +1,10 @@
 -- The value of the tree of a printed polynomial is the polynomial.
 use Rattle.std.proofs.Common.{◌≡◌, ◌≢◌, ◌∙◌, ℕ, suc, ◌+◌, ◌%◌, ◌^◌, ◌<◌, ◌≤◌, Bool, true, false, eqb, cond, List, [], ◌∷◌, ◌++◌, Some, length, replicate, set, refl, sym, subst, ap, ap₂, append_assoc, append-nil, length-append, arith}
 use Rattle.std.proofs.Math.Nat.{mod-eq_of_lt}
-use Rattle.std.proofs.lemmas.Bool.{or_parts, eqb-true, eqb-false}
-use Rattle.std.proofs.lemmas.Bool.Decides.{same_from_decides}
+use Rattle.std.proofs.lemmas.Bool.{eqb-true, eqb-false}
 use Rattle.std.proofs.lemmas.Fmt.{decimal_is_IsNumeral}
-use Rattle.std.proofs.lemmas.Slice.Eq.{bytes_eq-Decides}
 use Rattle.std.specs.Fmt.{decimal}
 use Rattle.std.specs.List.{AllByRecursion}
-use Rattle.std.specs.Str.{bytes_eq}
 use Rattle.polynomials.specs.Monomials.{Monomial, monomial_product, exponent_of}
 use Rattle.polynomials.specs.Polynomials.{term, Polynomial, IsPolynomial, with_first, sum_of, constant_of, variable_power}
 use Rattle.polynomials.specs.Polynomials as poly
@@ -17,29 +14,12 @@ use Rattle.sparse_poly.proofs.Products.{IsPolynomial-append_left}
 use Rattle.sparse_poly.proofs.Moduli.{positive_modulus}
 use Rattle.system_text.specs.Limits.{text_width}
 use Rattle.system_text.specs.Sums.{Setting, place_of_name}
-use Rattle.system_text.specs.Lines.{is_text_of}
 use Rattle.system_text.specs.Systems.{AreDifferent}
 use Rattle.system_text.specs.Grammar.{Sum, Term, Factor, First, Added, Single, Multiplied, Bare, Raised, Numeral, Variable, of_both, of_one, variable_of, sum_value, term_value, factor_value}
+use Rattle.report_text.proofs.NamePlaces.{place_among}
 use Rattle.report_text.proofs.Terms.{all_zero}
 use Rattle.report_text.proofs.Trees.{power_tree, power_trees, factor_trees, times_factors, product_tree, term_tree, plus_terms, poly_tree}
 use Rattle.report_text.proofs.PowerValues.{with_first_positive, product_within_term, power_within_variable, small_item, small_before_zeros, next_power, first_power}
-
--- the test of texts may change sides
-bytes_eq-swap : (x y : List ℕ) → bytes_eq x y ≡ bytes_eq y x
-bytes_eq-swap x y =
-    let back = bytes_eq-Decides y x in
-    same_from_decides (bytes_eq x y) (bytes_eq y x) (bytes_eq-Decides x y) ((λ h. sym (back.0 h)), (λ e. back.1 (sym e)))
-
--- a text that is none of these isn't the one among them
-other_name : (front : List (List ℕ)) (x : List ℕ) (back : List (List ℕ)) (y : List ℕ) → is_text_of (front ++ x ∷ back) y ≡ false → bytes_eq y x ≡ false
-other_name [] x back y h = bytes_eq-swap y x ∙ (or_parts (bytes_eq x y) (is_text_of back y) h).0
-other_name (z ∷ front) x back y h = other_name front x back y (or_parts (bytes_eq z y) (is_text_of (front ++ x ∷ back) y) h).1
-
--- among different names the place of a name is where it stands
-place_among : (i : ℕ) (front : List (List ℕ)) (x : List ℕ) (back : List (List ℕ)) → AreDifferent (front ++ x ∷ back) → place_of_name i (front ++ x ∷ back) x ≡ Some (i + length front)
-place_among i [] x back different = rw ((bytes_eq-Decides x x).1 refl) (ap Some (omega arith))
-place_among i (y ∷ front) x back different =
-    rw (other_name front x back y different.0) (place_among (suc i) front x back different.1 ∙ ap Some (omega arith))
 
 -- one more zero
 more_zeros : (l : Monomial) (e : ℕ) → l ≡ replicate (length l) 0 → e ≡ 0 → l ++ e ∷ [] ≡ replicate (length (l ++ e ∷ [])) 0

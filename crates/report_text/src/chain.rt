@@ -1,4 +1,4 @@
-ghost use Rattle.std.specs.Prelude.{◌≡◌, ◌≤◌, length, map, IfOk, All, string_bytes};
+ghost use Rattle.std.specs.Prelude.{◌≡◌, length, map, IfOk, All, string_bytes};
 ghost use Rattle.report_text.specs.Polynomials.{IsInLeast};
 ghost use Rattle.report_text.specs.Lines.{plain_chain_text};
 
