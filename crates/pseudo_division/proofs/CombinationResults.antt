@@ -13,7 +13,7 @@ use Rattle.division_rules.specs.Within.{elimination_within, pseudo_remainder_wit
 use Rattle.division_rules.proofs.Settings.{ViewedRing, operations}
 use Rattle.division_rules.proofs.PolynomialSetting.{polynomial_setting}
 use Rattle.division_rules.proofs.CanonicalViews.{canonical_operations}
-use Rattle.division_rules.proofs.Down.{terms, terms_all, down, down_all, terms-combined, down-elimination, down-pseudo_remainder, down-reduction}
+use Rattle.division_rules.proofs.Down.{terms, terms_all, down, terms-combined, down-elimination, down-pseudo_remainder, down-reduction}
 use Rattle.division_rules.proofs.Up.{up_all, up, up_rows, terms-up_all, down-up, down-up_rows}
 use Rattle.division_rules.proofs.Identity.{length-map_by, combination-elimination, combination-pseudo_remainder, combination-reduction}
 use Rattle.division_rules.proofs.WithinLimits.{Gives, gives-elimination, gives-pseudo_remainder, gives-reduction}

@@ -1,7 +1,6 @@
 -- The first member that eliminates, and then those before it.
 use Rattle.std.proofs.Common.{◌≡◌, ◌-◌, Some, None, option_map, sym, ap, ◌∙◌, arith}
 use Rattle.mono_words.specs.declared.mono.TheConstants.{VARS}
-use Rattle.polynomials.specs.Polynomials.{Polynomial, IsPolynomial}
 use Rattle.polynomials.specs.Views.{main_var}
 use Rattle.division_rules.specs.Lists.{variable_or_zero}
 use Rattle.division_rules.specs.Rows.{plain, plains}
