@@ -11,3 +11,6 @@ mod task;
 pub use chain::Chain;
 pub use nonzero::NonZero;
 pub use task::Task;
+
+#[cfg(test)]
+mod tests;
