@@ -1,1 +1,7 @@
 mod Bytes
+mod Values
+mod Items
+mod PlainNames
+mod Rests
+mod RestSteps
+mod KnownCommands

@@ -1,3 +1,5 @@
 pub mod Faults
 pub mod States
 pub mod Transfers
+pub mod Commands
+pub mod Givens

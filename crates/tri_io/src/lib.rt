@@ -1,6 +1,7 @@
 //! Bytes in and out, with a count of the faults of each end.
 #![tactic(auto)]
 
+mod command;
 mod failed;
 mod input;
 mod mem_sink;
@@ -11,6 +12,7 @@ mod source;
 mod std_sink;
 mod std_source;
 
+pub use command::{Command, WordsFault, command_of, commands_are_known};
 pub use failed::Failed;
 pub use input::{Input, ReadFail, read_all};
 pub use mem_sink::MemSink;
