@@ -1,0 +1,4 @@
+pub mod NonzeroLeads
+pub mod NewLeads
+pub mod LastEntries
+pub mod RowLeads
