@@ -1,0 +1,4 @@
+pub mod Cases
+pub mod Heads
+pub mod Children
+pub mod Covers

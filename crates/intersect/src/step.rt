@@ -1,0 +1,108 @@
+ghost use Rattle.std.specs.Prelude.{◌≡◌, ◌≢◌, List, [], ◌∷◌, IfOk};
+ghost use Rattle.polynomials.specs.Polynomials.{Polynomial, IsPolynomial};
+ghost use Rattle.polynomials.specs.Views.{main_var};
+ghost use Rattle.impose_rules.specs.Impose.{children_of, impose_step, step_of};
+ghost use Rattle.impose_laws.specs.TaskForms.{IsTaskOver};
+ghost use Rattle.row_laws.specs.Words.{IsReducedBy};
+ghost use Rattle.intersect.specs.Children.{children_by_constant};
+ghost use Rattle.intersect.specs.Covers.{CoversTask};
+
+use crate::head::reduced_head;
+use crate::rows::children_at;
+use chains::{Chain, Task};
+use mono_words::VARS;
+use sparse_poly::{Poly, Work};
+use split_paths::{Step, Tasks};
+use std::alloc::{AllocError, Global};
+
+/// Imposes the first polynomial of the queue on the chain. Reduced by the chain it joins it where its
+/// initial and the leads of its remainder rows don't vanish; each of those that may vanish makes a
+/// child of its own.
+pub fn impose(alloc: Global, w: Work, task: Task) -> Result<Step<Task, Chain>, AllocError>
+    requires over { IsTaskOver w.field VARS task }
+    requires queue { task.queue ≢ [] }
+    ensures step { IfOk result (λ made. (f : Polynomial) (rest : List Polynomial)
+        → task.queue ≡ f ∷ rest → made ≡ impose_step w.field VARS w.width task.chain f rest task.nonzero) }
+    ensures cover { IfOk result (CoversTask w.field task) }
+{
+    // Tells that the modulus is prime.
+    let _ = w.field.prime();
+    let Task {
+        chain,
+        queue,
+        nonzero,
+    } = task;
+    // Tells that the chain is triangular.
+    let _ = chain.polys();
+    let mut rest = queue;
+    match rest.take_first() {
+        None => unreachable!(),
+        Some(f) => {
+            let left = Task {
+                chain,
+                queue: rest,
+                nonzero,
+            };
+            imposed(alloc, &w, &f, left)
+        }
+    }
+}
+
+/// Imposes `f` on what is left of a task.
+fn imposed(alloc: Global, w: &Work, f: &Poly, left: Task) -> Result<Step<Task, Chain>, AllocError>
+    requires over { IsTaskOver w.now.field VARS left }
+    requires head { IsPolynomial w.now.field VARS f.now }
+    ensures { IfOk result (λ made. made
+        ≡ impose_step w.now.field VARS w.now.width left.chain f.now left.queue left.nonzero) }
+{
+    match reduced_head(alloc, w, f, &left)? {
+        None => Ok(Step::TooWide),
+        Some(r) => Ok(step_of(children_of(alloc, w, r, left)?)),
+    }
+}
+
+/// The step to these children.
+fn step_of(kids: Option<Tasks<Task>>) -> Step<Task, Chain>
+    ensures { result ≡ step_of kids }
+{
+    match kids {
+        None => Step::TooWide,
+        Some(kids) => {
+            if kids.is_empty() {
+                Step::Gone
+            } else {
+                Step::Kids(kids)
+            }
+        }
+    }
+}
+
+/// The children where `r`, which is reduced by the chain, is imposed.
+fn children_of(
+    alloc: Global,
+    w: &Work,
+    r: Poly,
+    left: Task,
+) -> Result<Option<Tasks<Task>>, AllocError>
+    requires head { IsPolynomial w.now.field VARS r }
+    requires over { IsTaskOver w.now.field VARS left }
+    requires reduced { IsReducedBy r left.chain }
+    ensures { IfOk result (λ kids. kids ≡ children_of w.now.field VARS w.now.width
+        left.chain left.queue left.nonzero r (main_var r)) }
+{
+    match r.main_var() {
+        None => Ok(Some(children_by_constant(alloc, &r, left)?)),
+        Some(v) => children_at(alloc, w, v, r, left),
+    }
+}
+
+/// The task itself where a constant is 0, and nothing else.
+fn children_by_constant(alloc: Global, r: &Poly, left: Task) -> Result<Tasks<Task>, AllocError>
+    ensures { IfOk result (λ kids. kids ≡ children_by_constant r.now left) }
+{
+    let mut kids = Tasks::new(alloc);
+    if r.is_zero() {
+        kids.push(left)?;
+    }
+    Ok(kids)
+}
