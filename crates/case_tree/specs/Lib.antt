@@ -1,0 +1,3 @@
+pub mod Systems
+pub mod Keeps
+pub mod Laws

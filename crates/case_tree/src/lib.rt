@@ -1,0 +1,12 @@
+//! The solver's tree of cases: what becomes of each task of a system.
+#![tactic(auto)]
+
+mod cases;
+mod finish;
+mod laws;
+
+pub use cases::Cases;
+pub use laws::{emits_common_zeros_alone, steps_lose_no_common_zero};
+
+#[cfg(test)]
+mod tests;
