@@ -1,0 +1,67 @@
+ghost use Rattle.std.specs.Prelude.{◌≡◌, ℕ, List, length, map, IfOk, string_bytes};
+ghost use Rattle.polynomials.specs.Polynomials.{Polynomial};
+ghost use Rattle.split_paths.specs.Answer.{answer_of};
+ghost use Rattle.split_paths.specs.Tree.{events_of, events_to_come};
+ghost use Rattle.solver_reports.specs.Texts.{walk_of};
+ghost use Rattle.solver_reports.specs.Fronts.{IsPrintable};
+
+use crate::report::Report;
+use chains::Chain;
+use generators::{Generator, Turn};
+use sparse_poly::Names;
+use split_paths::{Offer, Splitter};
+use std::alloc::{AllocError, Global};
+use std::marker::Model;
+
+/// The text of an answer, and whether it ends at a branch that was stopped.
+#[derive(Drop)]
+pub struct Walked {
+    pub text: String,
+    pub stopped: bool,
+}
+
+impl Model for Walked {
+    ghost use Rattle.std.specs.Prelude.{string_bytes};
+    ghost use Rattle.solver_reports.specs.Texts.{Walk};
+
+    ghost Value = { Walk };
+
+    ghost view = { λ walked. record { text = string_bytes walked.text; stopped = walked.stopped } };
+}
+
+/// Walks the tree below an offer, and reports its answer.
+pub fn walk<X: Splitter<Leaf = Chain>>(
+    alloc: Global,
+    names: &Names,
+    splitter: &X,
+    root: Offer<X>,
+) -> Result<Walked, AllocError>
+    requires lawful { X.lawful_task splitter.now root.task }
+    requires printable { (leaf : List Polynomial) → X.lawful_leaf splitter.now leaf
+        → IsPrintable (length names.now) leaf }
+    ensures { IfOk result (λ walked. walked ≡ walk_of (map string_bytes names.now)
+        (answer_of (events_of (X.step splitter.now) root))) }
+{
+    let mut report = Report::new(alloc);
+    let mut generator = Generator::of(alloc, root)?;
+    loop {
+        match generator.turn(splitter) {
+            Ok(Turn::Quiet) => {}
+            Ok(Turn::Event(event)) => {
+                if report.note(alloc, names, event)? {
+                    return Ok(Walked {
+                        text: report.into_text(),
+                        stopped: true,
+                    });
+                }
+            }
+            Ok(Turn::Done) => {
+                return Ok(Walked {
+                    text: report.ended(alloc)?,
+                    stopped: false,
+                });
+            }
+            Err(_) => return Err(AllocError),
+        }
+    }
+}
