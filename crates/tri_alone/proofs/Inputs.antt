@@ -1,46 +1,45 @@
 -- What was read of a source, and what is to be written for it.
-use Rattle.std.proofs.Common.{◌≡◌, ◌⊎◌, inl, inr, Result, Err, ℕ, ◌+◌, ◌<◌, ◌≤◌, ltb, Bool, true, false, List, [], ◌++◌, length, drop, Option, Some, None, Ok, IfSome, refl, sym, ap, ◌∙◌, subst, append-nil, length-append, arith}
+use Rattle.std.proofs.Common.{◌≡◌, ◌⊎◌, inl, inr, Result, Err, ℕ, ◌+◌, ◌<◌, ◌≤◌, ltb, cond, Bool, true, false, List, [], ◌++◌, length, drop, Option, Some, None, Ok, IfSome, refl, sym, ap, ◌∙◌, subst, append-nil, length-append, arith}
 use Rattle.std.proofs.lemmas.Bool.Decides.{nat_tests}
 use Rattle.std.proofs.Math.Seq.{drop-append_seam}
-use Rattle.std.specs.Io.KnownBytes.{Consumes, IsAtEnd}
+use Rattle.std.specs.Io.KnownBytes.{IsAtEnd}
+use Rattle.tri_io.specs.Commands.{Options, IsCommand}
 use Rattle.tri_io.specs.Transfers.{ReadsAll}
 use Rattle.tri_io.specs.declared.input.Input.{Input}
 use Rattle.tri_io.specs.declared.input.Input.TheVariants.{Whole, TooLong}
 use Rattle.system_text.specs.Faults.{Refusal}
 use Rattle.system_text.specs.Lines.{TextSystem, read_text}
+use Rattle.report_text.specs.Lines.{too_long_line}
 use Rattle.report_text.specs.declared.status.Status.{Status}
-use Rattle.report_text.specs.declared.status.Status.TheVariants.{Chains, Stopped, Usage, Refused, ReadFault, WriteFault, OutOfMemory}
-use Rattle.tri_alone.specs.Answers.{is_unsolved}
-use Rattle.tri_alone.specs.Expected.{Outcome, IsExpected, IsOfBytes, IsOfInput, IsOfReading, IsOfSystem, IsOutcome, FitsText, most_bytes}
-use Rattle.tri_alone.specs.Runs.{Leaves, HasRead, IsOfText}
+use Rattle.report_text.specs.declared.status.Status.TheVariants.{Chains, Stopped, Refused}
+use Rattle.tri_alone.specs.Expected.{Outcome, outcome_of_bytes, outcome_of_input, outcome_of_reading, refusal, most_bytes}
+use Rattle.tri_alone.specs.Solvable.{IsInputSolvable, IsReadingSolvable}
+use Rattle.tri_alone.specs.Runs.{IsExpectedAnswer, Leaves, IsOfSystem, IsOfText}
 
--- what is read to its end fits a text
-pub reads_fit : (old new : Option (List ℕ)) (input : Input) → ReadsAll most_bytes old new (Ok input) → FitsText input
-reads_fit old new (Whole bytes) h = h.0
-reads_fit old new TooLong h = tt
+-- the status of what is written for a text that was read
+abbrev OfText : Status → Type 0
+OfText status = (status ≡ Chains) ⊎ ((status ≡ Stopped) ⊎ (status ≡ Refused))
 
--- the status of an outcome for a system
-system_status : (n : ℕ) (system : TextSystem) (outcome : Outcome) (b : Bool) → IsOfSystem n system outcome b → (outcome.status ≡ Chains) ⊎ (outcome.status ≡ Refused)
-system_status n system outcome true h = inr h.same_status
-system_status n system outcome false h = inl h.0
+by_stop : (b : Bool) → OfText (cond b Stopped Chains)
+by_stop true = inr (inl refl)
+by_stop false = inl refl
 
--- and for a text
-reading_status : (n : ℕ) (outcome : Outcome) (reading : Result TextSystem Refusal) → IsOfReading n outcome reading → (outcome.status ≡ Chains) ⊎ (outcome.status ≡ Refused)
-reading_status n outcome (Ok system) h = system_status n system outcome (is_unsolved system) h
-reading_status n outcome (Err e) h = inr h.same_status
+reading_status : (n : ℕ) (options : Options) (reading : Result TextSystem Refusal) → OfText (outcome_of_reading n options reading).status
+reading_status n options (Ok system) = by_stop _
+reading_status n options (Err e) = inr (inr refl)
 
--- and for what was read of a source
-input_status : (n : ℕ) (outcome : Outcome) (input : Input) → IsOfInput n outcome input → (outcome.status ≡ Chains) ⊎ (outcome.status ≡ Refused)
-input_status n outcome (Whole bytes) h = reading_status n outcome (read_text n bytes.items) h
-input_status n outcome TooLong h = inr h.same_status
+input_status : (n : ℕ) (options : Options) (input : Input) → OfText (outcome_of_input n options input).status
+input_status n options (Whole bytes) = reading_status n options (read_text n bytes.items)
+input_status n options TooLong = inr (inr refl)
 
-either_is_of_text : (status : Status) → (status ≡ Chains) ⊎ (status ≡ Refused) → IsOfText status
-either_is_of_text status (inl e) = subst (λ s. IsOfText s) (sym e) tt
-either_is_of_text status (inr e) = subst (λ s. IsOfText s) (sym e) tt
+is_of_text : (status : Status) → OfText status → IsOfText status
+is_of_text status (inl e) = subst (λ s. IsOfText s) (sym e) tt
+is_of_text status (inr (inl e)) = subst (λ s. IsOfText s) (sym e) tt
+is_of_text status (inr (inr e)) = subst (λ s. IsOfText s) (sym e) tt
 
 -- a run that read has the status of a text
-pub input_is_of_text : (n : ℕ) (outcome : Outcome) (input : Input) → IsOfInput n outcome input → IsOfText outcome.status
-input_is_of_text n outcome input h = either_is_of_text outcome.status (input_status n outcome input h)
+pub input_is_of_text : (n : ℕ) (options : Options) (input : Input) (outcome : Outcome) → outcome ≡ outcome_of_input n options input → IsOfText outcome.status
+input_is_of_text n options input outcome e = subst (λ o. IsOfText o.status) (sym e) (is_of_text (outcome_of_input n options input).status (input_status n options input))
 
 -- few bytes pass the test, and more don't
 few : (k : ℕ) (bytes : List ℕ) → length bytes ≤ k → ltb k (length bytes) ≡ false
@@ -62,36 +61,52 @@ longer bytes front left h e =
 rest_of : (bytes front left : List ℕ) → length front ≡ most_bytes + 1 → bytes ≡ front ++ left → left ≡ drop (most_bytes + 1) bytes
 rest_of bytes front left h e = sym (ap (λ xs. drop (most_bytes + 1) xs) e ∙ ap (λ k. drop k (front ++ left)) (sym h) ∙ drop-append_seam front left)
 
+-- the outcome of few bytes is that of their reading, and of more a refusal
+few_outcome : (n : ℕ) (options : Options) (bytes : List ℕ) → length bytes ≤ most_bytes → outcome_of_bytes n options bytes ≡ outcome_of_reading n options (read_text n bytes)
+few_outcome n options bytes h = ap (λ b. cond b (refusal too_long_line) (outcome_of_reading n options (read_text n bytes))) (few most_bytes bytes h)
+
+many_outcome : (n : ℕ) (options : Options) (bytes : List ℕ) → most_bytes < length bytes → outcome_of_bytes n options bytes ≡ refusal too_long_line
+many_outcome n options bytes h = ap (λ b. cond b (refusal too_long_line) (outcome_of_reading n options (read_text n bytes))) (many most_bytes bytes h)
+
+refused_of_system : {P : Type 0} → (status : Status) → status ≡ Refused → IsOfSystem status → P
+refused_of_system status e h = absurd (subst (λ s. IsOfSystem s) e h)
+
 -- what is expected of what was read is expected of the input
-pub input_expected : (n : ℕ) (old new : Option (List ℕ)) (input : Input) (outcome : Outcome) → ReadsAll most_bytes old new (Ok input) → IsOfInput n outcome input → IfSome old (λ bytes. IsExpected n [] bytes outcome)
-input_expected n None new input outcome h i = tt
-input_expected n (Some bytes) None (Whole read) outcome h i = absurd h.1
-input_expected n (Some bytes) None TooLong outcome h i = absurd h.2
-input_expected n (Some bytes) (Some left) (Whole read) outcome h i =
+pub input_expected : (n : ℕ) (words : List (List ℕ)) (options : Options) (old new : Option (List ℕ)) (input : Input) (outcome : Outcome) → IsCommand false words options → ReadsAll most_bytes old new (Ok input) → outcome ≡ outcome_of_input n options input → IsInputSolvable n input → IfSome old (λ bytes. IsExpectedAnswer n words bytes outcome)
+input_expected n words options None new input outcome command h e solvable = tt
+input_expected n words options (Some bytes) None (Whole read) outcome command h e solvable = absurd h.1
+input_expected n words options (Some bytes) None TooLong outcome command h e solvable = absurd h.2
+input_expected n words options (Some bytes) (Some left) (Whole read) outcome command h e solvable =
     let same : bytes ≡ read.items = whole_bytes bytes read.items left h.1 h.2 in
     let short : length bytes ≤ most_bytes = subst (λ xs. length xs ≤ most_bytes) (sym same) h.0 in
-    rw (few most_bytes bytes short) (subst (λ xs. IsOfReading n outcome (read_text n xs)) (sym same) i)
-input_expected n (Some bytes) (Some left) TooLong outcome h i =
-    let long : most_bytes < length bytes = longer bytes h.0 left h.1 h.2 in
-    rw (many most_bytes bytes long) i
+    record {
+      expected = inl (record { options = options; command = command; same = e ∙ ap (λ xs. outcome_of_reading n options (read_text n xs)) (sym same) ∙ sym (few_outcome n options bytes short) });
+      solvable = λ status. subst (λ xs. IsReadingSolvable (read_text n xs)) (sym same) solvable;
+    }
+input_expected n words options (Some bytes) (Some left) TooLong outcome command h e solvable =
+    record {
+      expected = inl (record { options = options; command = command; same = e ∙ sym (many_outcome n options bytes (longer bytes h.0 left h.1 h.2)) });
+      solvable = λ status. refused_of_system outcome.status (ap (λ o. o.status) e) status;
+    }
 
 -- a status of a text at the end of the input
-ended_leaves : (bytes : List ℕ) (left : Option (List ℕ)) (status : Status) → (status ≡ Chains) ⊎ (status ≡ Refused) → length bytes ≤ most_bytes → IsAtEnd left → Leaves bytes left status
+ended_leaves : (bytes : List ℕ) (left : Option (List ℕ)) (status : Status) → OfText status → length bytes ≤ most_bytes → IsAtEnd left → Leaves bytes left status
 ended_leaves bytes left status (inl e) short h = subst (λ s. Leaves bytes left s) (sym e) h
-ended_leaves bytes left status (inr e) short h = subst (λ s. Leaves bytes left s) (sym e) (rw (few most_bytes bytes short) h)
+ended_leaves bytes left status (inr (inl e)) short h = subst (λ s. Leaves bytes left s) (sym e) h
+ended_leaves bytes left status (inr (inr e)) short h = subst (λ s. Leaves bytes left s) (sym e) (rw (few most_bytes bytes short) h)
 
 -- the refusal of too many bytes, of which one more than fit was read
 excess_leaves : (bytes left : List ℕ) (status : Status) → status ≡ Refused → most_bytes < length bytes → left ≡ drop (most_bytes + 1) bytes → Leaves bytes (Some left) status
 excess_leaves bytes left status e long h = subst (λ s. Leaves bytes (Some left) s) (sym e) (rw (many most_bytes bytes long) (ap (λ xs. Some xs) h))
 
 -- what is left of the input
-pub input_leaves : (n : ℕ) (old new : Option (List ℕ)) (input : Input) (outcome : Outcome) → ReadsAll most_bytes old new (Ok input) → IsOfInput n outcome input → IfSome old (λ bytes. Leaves bytes new outcome.status)
-input_leaves n None new input outcome h i = tt
-input_leaves n (Some bytes) None (Whole read) outcome h i = absurd h.1
-input_leaves n (Some bytes) None TooLong outcome h i = absurd h.2
-input_leaves n (Some bytes) (Some left) (Whole read) outcome h i =
+pub input_leaves : (n : ℕ) (options : Options) (old new : Option (List ℕ)) (input : Input) (outcome : Outcome) → ReadsAll most_bytes old new (Ok input) → outcome ≡ outcome_of_input n options input → IfSome old (λ bytes. Leaves bytes new outcome.status)
+input_leaves n options None new input outcome h e = tt
+input_leaves n options (Some bytes) None (Whole read) outcome h e = absurd h.1
+input_leaves n options (Some bytes) None TooLong outcome h e = absurd h.2
+input_leaves n options (Some bytes) (Some left) (Whole read) outcome h e =
     let same : bytes ≡ read.items = whole_bytes bytes read.items left h.1 h.2 in
     let short : length bytes ≤ most_bytes = subst (λ xs. length xs ≤ most_bytes) (sym same) h.0 in
-    ended_leaves bytes (Some left) outcome.status (reading_status n outcome (read_text n read.items) i) short h.2
-input_leaves n (Some bytes) (Some left) TooLong outcome h i =
-    excess_leaves bytes left outcome.status i.same_status (longer bytes h.0 left h.1 h.2) (rest_of bytes h.0 left h.1 h.2)
+    ended_leaves bytes (Some left) outcome.status (subst (λ o. OfText o.status) (sym e) (reading_status n options (read_text n read.items))) short h.2
+input_leaves n options (Some bytes) (Some left) TooLong outcome h e =
+    excess_leaves bytes left outcome.status (ap (λ o. o.status) e) (longer bytes h.0 left h.1 h.2) (rest_of bytes h.0 left h.1 h.2)

@@ -1,5 +1,6 @@
+mod Widths
 mod Ends
 mod Inputs
-mod Named
-mod Outcomes
 mod Solved
+mod Systems
+mod Usages

@@ -1,65 +1,80 @@
--- What was answered with chains is solved: they have the common zeros of the system that was read.
-use Rattle.std.proofs.Common.{◌≡◌, ◌≢◌, ℕ, ◌+◌, ◌<◌, ◌≤◌, ltb, Bool, true, false, List, [], ◌∷◌, length, Option, Some, None, IfSome, Result, Ok, Err, All, Contains, refl, sym, subst, arith}
+-- What was answered for a system is its solution: chains of common zeros, and of all where none stopped.
+use Rattle.std.proofs.Common.{◌≡◌, ℕ, ltb, Bool, true, false, cond, List, length, Option, Some, None, IfSome, Result, Ok, Err, inl, inr, refl, sym, ap, ◌∙◌, subst}
 use Rattle.std.specs.Io.KnownBytes.{Appends}
-use Rattle.polynomials.specs.Primes.{IsPrime}
-use Rattle.polynomials.specs.Laws.{FieldPrimesArePrimes}
+use Rattle.mono_words.specs.declared.mono.TheConstants.{VARS}
+use Rattle.split_paths.specs.declared.event.Why.{Why}
 use Rattle.system_text.specs.Faults.{Refusal}
 use Rattle.system_text.specs.Lines.{TextSystem, read_text}
-use Rattle.system_text.specs.Laws.{IsSystem, WhatIsReadIsASystem}
-use Rattle.common_divisors.specs.Chains.{chains_of}
-use Rattle.common_divisors.specs.Laws.{ChainsHaveCommonZeros}
+use Rattle.tri_io.specs.Commands.{Options, IsCommand}
 use Rattle.report_text.specs.declared.status.Status.{Status}
-use Rattle.report_text.specs.declared.status.Status.TheVariants.{Chains, Usage, Refused}
-use Rattle.tri_alone.specs.Answers.{IsReport, is_unsolved, report_of, HaveCommonZeros}
-use Rattle.tri_alone.specs.Expected.{Outcome, IsExpected, IsOfBytes, IsOfReading, IsOfSystem, most_bytes}
-use Rattle.tri_alone.specs.Runs.{WritesWhole, IsSolved, Ends, Writes, IsOfAnswer}
-use Rattle.tri_alone.proofs.Ends.{written_ends}
-use Rattle.tri_alone.proofs.Named.{named_are_polynomials, named_are_univariate, solved_has_one_name}
+use Rattle.report_text.specs.declared.status.Status.TheVariants.{Chains, Stopped, Usage, Refused, WriteFault}
+use Rattle.report_text.specs.Lines.{too_long_line}
+use Rattle.solver_reports.specs.Texts.{is_stopped}
+use Rattle.case_tree.specs.Systems.{IsSolvable}
+use Rattle.case_laws.proofs.AnswersOfSystems.{answers_are_sound, answers_have_common_zeros}
+use Rattle.tri_alone.specs.Answers.{answer_of_system}
+use Rattle.tri_alone.specs.Expected.{Outcome, IsExpected, outcome_of_reading, outcome_of_system, refusal, most_bytes}
+use Rattle.tri_alone.specs.Solvable.{IsReadingSolvable}
+use Rattle.tri_alone.specs.Runs.{IsExpectedAnswer, IsSolved, IsOfSystem, Writes}
 
--- a list that isn't empty has an item
-some_items : {A : Type 0} (xs : List A) → xs ≢ [] → 1 ≤ length xs
-some_items [] h = absurd (h refl)
-some_items (x ∷ xs) h = omega arith
+-- a status of a system is none of the others
+not_refused : {P : Type 0} → (status : Status) → status ≡ Refused → IsOfSystem status → P
+not_refused status e h = absurd (subst (λ s. IsOfSystem s) e h)
 
-module _ (primes : FieldPrimesArePrimes) (systems : WhatIsReadIsASystem) (zeros : ChainsHaveCommonZeros) (n : ℕ) (bytes : List ℕ) (old new : Option (List ℕ)) (text : List ℕ) (appends : Appends old new text) where
-  -- of a system that was read and isn't too large
-  report_solved : (system : TextSystem) → read_text n bytes ≡ Ok system → is_unsolved system ≡ false → IsReport n system text → IsSolved n bytes old new
-  report_solved system read small report =
-      let lawful = systems n bytes system read in
-      let one : length system.names ≤ 1 = solved_has_one_name system small in
-      let some : 1 ≤ length system.names = some_items system.names lawful.lawful.some in
+not_usage : {P : Type 0} → (status : Status) → status ≡ Usage → IsOfSystem status → P
+not_usage status e h = absurd (subst (λ s. IsOfSystem s) e h)
+
+not_write_fault : {P : Type 0} → (status : Status) → status ≡ WriteFault → IsOfSystem status → P
+not_write_fault status e h = absurd (subst (λ s. IsOfSystem s) e h)
+
+-- with the status of chains no branch was stopped
+going_on : (b : Bool) → cond b Stopped Chains ≡ Chains → b ≡ false
+going_on true e = cc
+going_on false e = refl
+
+no_stop : (stop : Option (List ℕ × Why)) → is_stopped stop ≡ false → stop ≡ None
+no_stop None e = refl
+no_stop (Some s) e = cc
+
+module _ (words : List (List ℕ)) (bytes : List ℕ) (old new : Option (List ℕ)) (options : Options) (command : IsCommand false words options) where
+  -- of a system that was read
+  system_solved : (system : TextSystem) → read_text VARS bytes ≡ Ok system → IsSolvable system → (outcome : Outcome) → outcome ≡ outcome_of_system VARS options system → Appends old new outcome.text → IsSolved VARS words bytes old new outcome.status
+  system_solved system read solvable outcome e appends =
+      let p = system.prime in
+      let k = length system.names in
       record {
+        options = options;
+        command = command;
         system = system;
         read = read;
-        variable = omega arith;
-        chains = chains_of n report.divisor;
-        written = rw (← report.report) appends;
-        zeros = λ r xs domain point count. zeros system.prime n r xs system.inputs report.divisor (primes system.prime lawful.prime) domain point count (named_are_polynomials system.prime n system.names system.inputs lawful.inputs) (named_are_univariate system.prime n system.names system.inputs lawful.inputs one) report.greatest;
+        written = subst (λ o. Appends old new o.text) e appends;
+        sound = (answers_are_sound p VARS k options.width options.steps system.inputs solvable.prime solvable.inputs).sound;
+        complete = λ chains r xs domain point. answers_have_common_zeros p VARS k options.width options.steps system.inputs r xs solvable.prime solvable.inputs (no_stop (answer_of_system VARS options system).stop (going_on (is_stopped (answer_of_system VARS options system).stop) (sym (ap (λ o. o.status) e) ∙ chains))) domain point;
       }
 
-  -- by the test
-  system_solved : (system : TextSystem) → read_text n bytes ≡ Ok system → (b : Bool) → is_unsolved system ≡ b → IsOfSystem n system (record { status = Chains; text = text }) b → IsSolved n bytes old new
-  system_solved system read true test h = let e = h.same_status in cc
-  system_solved system read false test h = report_solved system read test h.1
-
   -- by what was read
-  reading_solved : (reading : Result TextSystem Refusal) → read_text n bytes ≡ reading → IsOfReading n (record { status = Chains; text = text }) reading → IsSolved n bytes old new
-  reading_solved (Ok system) read h = system_solved system read (is_unsolved system) refl h
-  reading_solved (Err e) read h = let f = h.same_status in cc
+  reading_solved : (reading : Result TextSystem Refusal) → read_text VARS bytes ≡ reading → IsReadingSolvable reading → (outcome : Outcome) → outcome ≡ outcome_of_reading VARS options reading → IsOfSystem outcome.status → Appends old new outcome.text → IsSolved VARS words bytes old new outcome.status
+  reading_solved (Ok system) read solvable outcome e status appends = system_solved system read solvable outcome e appends
+  reading_solved (Err f) read solvable outcome e status appends = not_refused outcome.status (ap (λ o. o.status) e) status
 
   -- by the number of bytes
-  bytes_solved : (b : Bool) → IsOfBytes n bytes (record { status = Chains; text = text }) b → IsSolved n bytes old new
-  bytes_solved true h = let e = h.same_status in cc
-  bytes_solved false h = reading_solved (read_text n bytes) refl h
+  bytes_solved : (b : Bool) → IsReadingSolvable (read_text VARS bytes) → (outcome : Outcome) → outcome ≡ cond b (refusal too_long_line) (outcome_of_reading VARS options (read_text VARS bytes)) → IsOfSystem outcome.status → Appends old new outcome.text → IsSolved VARS words bytes old new outcome.status
+  bytes_solved true solvable outcome e status appends = not_refused outcome.status (ap (λ o. o.status) e) status
+  bytes_solved false solvable outcome e status appends = reading_solved (read_text VARS bytes) refl solvable outcome e status appends
 
-  -- by the words
-  expected_solved : (words : List (List ℕ)) → IsExpected n words bytes (record { status = Chains; text = text }) → IsSolved n bytes old new
-  expected_solved [] h = bytes_solved (ltb most_bytes (length bytes)) h
-  expected_solved (word ∷ words) h = let e = h.same_status in cc
+-- by the words
+expected_solved : (words : List (List ℕ)) (bytes : List ℕ) (old new : Option (List ℕ)) (outcome : Outcome) → IsExpected VARS words bytes outcome → IsReadingSolvable (read_text VARS bytes) → IsOfSystem outcome.status → Appends old new outcome.text → IsSolved VARS words bytes old new outcome.status
+expected_solved words bytes old new outcome (inl answer) solvable status appends =
+    bytes_solved words bytes old new answer.options answer.command (ltb most_bytes (length bytes)) solvable outcome answer.same status appends
+expected_solved words bytes old new outcome (inr usage) solvable status appends = not_usage outcome.status (ap (λ o. o.status) usage.1) status
 
--- a run that wrote chains has solved the system
-pub written_solved : FieldPrimesArePrimes → WhatIsReadIsASystem → ChainsHaveCommonZeros → (n : ℕ) (words : List (List ℕ)) (left : Option (List ℕ)) (K : Type 0) (old new : Option (List ℕ)) (outcome : Outcome) (status : Status) → IfSome left (λ bytes. IsExpected n words bytes outcome) → IsOfAnswer outcome.status → Writes outcome K old new status → status ≡ Chains → IfSome left (λ bytes. IsSolved n bytes old new)
-written_solved primes systems zeros n words None K old new outcome status expected h w e = tt
-written_solved primes systems zeros n words (Some bytes) K old new outcome status expected h w e =
-    let whole : WritesWhole n words bytes old new Chains = subst (λ s. Ends n words bytes (Unit {0}) K old new s) e (written_ends n words bytes (Unit {0}) K old new outcome status expected h w) in
-    expected_solved primes systems zeros n bytes old new whole.0 whole.2 words whole.1
+written_solved : (words : List (List ℕ)) (bytes : List ℕ) (K : Type 0) (old new : Option (List ℕ)) (outcome : Outcome) (status : Status) → IsExpectedAnswer VARS words bytes outcome → Writes outcome K old new status → IsOfSystem status → IsSolved VARS words bytes old new status
+written_solved words bytes K old new outcome status expected (inl w) h =
+    let status_of = subst (λ s. IsOfSystem s) w.0 h in
+    subst (λ s. IsSolved VARS words bytes old new s) (sym w.0) (expected_solved words bytes old new outcome expected.expected (expected.solvable status_of) status_of w.1)
+written_solved words bytes K old new outcome status expected (inr w) h = not_write_fault status w.0 h
+
+-- a run that answered a system has solved it, where the source tells its bytes
+pub written_solved_if_told : (words : List (List ℕ)) (left : Option (List ℕ)) (K : Type 0) (old new : Option (List ℕ)) (outcome : Outcome) (status : Status) → IfSome left (λ bytes. IsExpectedAnswer VARS words bytes outcome) → Writes outcome K old new status → IsOfSystem status → IfSome left (λ bytes. IsSolved VARS words bytes old new status)
+written_solved_if_told words None K old new outcome status expected w h = tt
+written_solved_if_told words (Some bytes) K old new outcome status expected w h = written_solved words bytes K old new outcome status expected w h

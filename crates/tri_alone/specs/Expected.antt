@@ -1,42 +1,49 @@
 -- The status and the text that a run is to end with.
-use Rattle.std.specs.Prelude.{◌≡◌, ℕ, ◌≤◌, ltb, Bool, true, false, List, [], ◌∷◌, length, Result, Ok, Err}
+use Rattle.std.specs.Prelude.{◌≡◌, ◌⊎◌, ℕ, ◌≤◌, ltb, false, cond, List, length, Result, Ok, Err}
 use Rattle.system_text.specs.Faults.{Refusal}
 use Rattle.system_text.specs.Lines.{TextSystem, read_text}
+use Rattle.tri_io.specs.Commands.{Options, IsCommand}
 use Rattle.tri_io.specs.declared.input.Input.{Input}
 use Rattle.tri_io.specs.declared.input.Input.TheVariants.{Whole, TooLong}
 use Rattle.report_text.specs.declared.status.Status.{Status}
-use Rattle.report_text.specs.declared.status.Status.TheVariants.{Chains, Usage, Refused}
+use Rattle.report_text.specs.declared.status.Status.TheVariants.{Chains, Stopped, Usage, Refused}
 use Rattle.report_text.specs.Lines.{refused_line, too_long_line, usage_line}
-use Rattle.tri_alone.specs.Answers.{IsReport, is_unsolved, unsolved_line}
+use Rattle.solver_reports.specs.Texts.{Walk, walk_of}
+use Rattle.tri_alone.specs.Answers.{answer_of_system}
 
 -- a status, and the text that is written with it
 pub record Outcome : Type 0 where
   pub status : Status
   pub text : List ℕ
 
+-- a refusal
+abbrev pub refusal : List ℕ → Outcome
+refusal text = record { status = Refused; text = text }
+
+-- the report of an answer
+abbrev pub outcome_of_walk : Walk → Outcome
+outcome_of_walk walk = record { status = cond walk.stopped Stopped Chains; text = walk.text }
+
+-- of a system
+abbrev pub outcome_of_system : ℕ → Options → TextSystem → Outcome
+outcome_of_system n options system = outcome_of_walk (walk_of system.names (answer_of_system n options system))
+
+-- of a text by what is read of it
+abbrev pub outcome_of_reading : ℕ → Options → Result TextSystem Refusal → Outcome
+outcome_of_reading n options (Ok system) = outcome_of_system n options system
+outcome_of_reading n options (Err e) = refusal (refused_line e.number e.line e.byte)
+
 -- the most bytes that are read as a text
 abbrev pub most_bytes : ℕ
 most_bytes = 1048576
 
--- the outcome is this status with this text
-pub record IsOutcome (status : Status) (text : List ℕ) (outcome : Outcome) : Type 0 where
-  pub same_status : outcome.status ≡ status
-  pub same_text : outcome.text ≡ text
+-- of the bytes of an input
+abbrev pub outcome_of_bytes : ℕ → Options → List ℕ → Outcome
+outcome_of_bytes n options bytes = cond (ltb most_bytes (length bytes)) (refusal too_long_line) (outcome_of_reading n options (read_text n bytes))
 
--- of a system, where it isn't solved yet or where it is
-abbrev pub IsOfSystem : ℕ → TextSystem → Outcome → Bool → Type 0
-IsOfSystem n system outcome true = IsOutcome Refused unsolved_line outcome
-IsOfSystem n system outcome false = (outcome.status ≡ Chains) × IsReport n system outcome.text
-
--- of a text by what is read of it
-abbrev pub IsOfReading : ℕ → Outcome → Result TextSystem Refusal → Type 0
-IsOfReading n outcome (Ok system) = IsOfSystem n system outcome (is_unsolved system)
-IsOfReading n outcome (Err e) = IsOutcome Refused (refused_line e.number e.line e.byte) outcome
-
--- of bytes, where they are too many or where they are not
-abbrev pub IsOfBytes : ℕ → List ℕ → Outcome → Bool → Type 0
-IsOfBytes n bytes outcome true = IsOutcome Refused too_long_line outcome
-IsOfBytes n bytes outcome false = IsOfReading n outcome (read_text n bytes)
+-- products have to fit a width from 1 to 1,000,000
+abbrev pub HasWidth : Options → Type 0
+HasWidth options = (1 ≤ options.width) × (options.width ≤ 1000000)
 
 -- what was read is not too long for a text
 abbrev pub FitsText : Input → Type 0
@@ -44,12 +51,25 @@ FitsText (Whole bytes) = length bytes.items ≤ most_bytes
 FitsText TooLong = Unit {0}
 
 -- of what was read of a source
-abbrev pub IsOfInput : ℕ → Outcome → Input → Type 0
-IsOfInput n outcome (Whole bytes) = IsOfReading n outcome (read_text n bytes.items)
-IsOfInput n outcome TooLong = IsOutcome Refused too_long_line outcome
+abbrev pub outcome_of_input : ℕ → Options → Input → Outcome
+outcome_of_input n options (Whole bytes) = outcome_of_reading n options (read_text n bytes.items)
+outcome_of_input n options TooLong = refusal too_long_line
 
--- of the words of the command line and the bytes of the input, in n variables at most; there are no
--- words that are known yet
+-- the words are no command
+abbrev pub IsNoCommand : List (List ℕ) → Type 0
+IsNoCommand words = (options : Options) → IsCommand false words options → ⊥
+
+-- the words are a command, and this is the outcome of the bytes by its options
+pub record IsAnswer (n : ℕ) (words : List (List ℕ)) (bytes : List ℕ) (outcome : Outcome) : Type 0 where
+  pub options : Options
+  pub command : IsCommand false words options
+  pub same : outcome ≡ outcome_of_bytes n options bytes
+
+-- the line that says how the program is called
+abbrev pub usage_outcome : Outcome
+usage_outcome = record { status = Usage; text = usage_line false }
+
+-- of the words of the command line and the bytes of the input: the line that says how the program is
+-- called, where the words are no command
 abbrev pub IsExpected : ℕ → List (List ℕ) → List ℕ → Outcome → Type 0
-IsExpected n [] bytes outcome = IsOfBytes n bytes outcome (ltb most_bytes (length bytes))
-IsExpected n (word ∷ words) bytes outcome = IsOutcome Usage (usage_line false) outcome
+IsExpected n words bytes outcome = IsAnswer n words bytes outcome ⊎ (IsNoCommand words × (outcome ≡ usage_outcome))

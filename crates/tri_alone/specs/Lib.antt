@@ -1,3 +1,4 @@
 pub mod Answers
 pub mod Expected
+pub mod Solvable
 pub mod Runs

@@ -1,18 +1,19 @@
-ghost use Rattle.std.specs.Prelude.{◌≡◌, ◌≢◌, ◌⊎◌, ◌↔◌, [], map, IfOk, IfSome, IsErrOf, string_bytes};
-ghost use Rattle.tri_alone.specs.Expected.{IsExpected};
-ghost use Rattle.tri_alone.specs.Runs.{Ends, IsSolved, Leaves, Writes, IsOfAnswer, IsOfText};
+ghost use Rattle.std.specs.Prelude.{◌≡◌, ◌⊎◌, false, map, IfOk, IfSome, IsErrOf, string_bytes};
+ghost use Rattle.tri_alone.specs.Expected.{IsNoCommand, usage_outcome};
+ghost use Rattle.tri_alone.specs.Runs.{AreCommand, Ends, IsExpectedAnswer, IsSolved, Leaves, Writes, IsOfAnswer, IsOfSystem, IsOfText};
+ghost use Rattle.tri_io.specs.Commands.{IsCommand};
 ghost use Rattle.tri_io.specs.Faults.{Rose};
 
 use crate::answer::{Answer, answer_to_input};
 use mono_words::VARS;
 use report_text::{Status, print_usage};
 use std::alloc::{AllocError, Global};
-use tri_io::{ReadFail, Sink, Source, read_all, write_all};
+use tri_io::{Command, ReadFail, Sink, Source, WordsFault, command_of, read_all, write_all};
 
 /// The greatest number of bytes that a system may have.
 pub const MOST_BYTES: usize = 1_048_576;
 
-/// Reads a system from the source and writes its answer to the sink. No words are known yet.
+/// Reads a system from the source and writes the report of its answer to the sink.
 pub fn run_alone<S: Source, K: Sink>(
     alloc: Global,
     words: &[String],
@@ -25,14 +26,16 @@ pub fn run_alone<S: Source, K: Sink>(
         (K.taken sink.old) (K.taken sink.new) result) }
     ensures leaves { IfSome (S.left source.old) (λ bytes. Leaves bytes (S.left source.new) result) }
 
-    // The points of an answer are the common zeros of the system that was read.
-    ensures solved { result ≡ Status.Chains → IfSome (S.left source.old) (λ bytes.
-        IsSolved VARS bytes (K.taken sink.old) (K.taken sink.new)) }
+    // The points of the chains that are printed are common zeros of the system that was read, and all
+    // of them where no branch passed a limit.
+    ensures solved { IsOfSystem result → IfSome (S.left source.old) (λ bytes.
+        IsSolved VARS (map string_bytes words.now) bytes (K.taken sink.old) (K.taken sink.new) result) }
 
-    // Words are no command, and then nothing is read.
-    ensures words { words.now ≢ [] → (result ≡ Status.Usage) ⊎ ((result ≡ Status.WriteFault) ⊎ (result ≡ Status.OutOfMemory)) }
-    ensures usage { result ≡ Status.Usage → words.now ≢ [] }
-    ensures unread { words.now ≢ [] → source.new ≡ source.old }
+    // Where the words are no command, nothing is read.
+    ensures usage { result ≡ Status.Usage → IsNoCommand (map string_bytes words.now) }
+    ensures unread { IsNoCommand (map string_bytes words.now) → source.new ≡ source.old }
+    ensures words { IsNoCommand (map string_bytes words.now) → (result ≡ Status.Usage)
+        ⊎ ((result ≡ Status.WriteFault) ⊎ (result ≡ Status.OutOfMemory)) }
 
     // A fault is answered where its count rose.
     ensures read_fault { result ≡ Status.ReadFault
@@ -40,10 +43,9 @@ pub fn run_alone<S: Source, K: Sink>(
     ensures write_fault { result ≡ Status.WriteFault
         → Rose (K.faults sink.old) (K.faults sink.new) }
 
-    // Nothing is written after a failed read or without memory, and no limit of steps is kept.
+    // Nothing is written after a failed read or without memory.
     ensures unwritten { result ≡ Status.ReadFault → sink.new ≡ sink.old }
     ensures silent { result ≡ Status.OutOfMemory → sink.new ≡ sink.old }
-    ensures never_stopped { result ≢ Status.Stopped }
 {
     match prepared(alloc, words, source) {
         Ok(answer) => written(sink, &answer),
@@ -62,18 +64,30 @@ pub enum Silence {
 /// What is to be written, by the words and by what is read of the source.
 fn prepared<S: Source>(alloc: Global, words: &[String], source: &mut S) -> Result<Answer, Silence>
     ensures expected { IfOk result (λ a. IfSome (S.left source.old) (λ bytes.
-        IsExpected VARS (map string_bytes words.now) bytes a)) }
+        IsExpectedAnswer VARS (map string_bytes words.now) bytes a)) }
     ensures leaves { IfOk result (λ a. IfSome (S.left source.old) (λ bytes.
         Leaves bytes (S.left source.new) a.status)) }
     ensures status { IfOk result (λ a. IsOfAnswer a.status) }
-    ensures usage { IfOk result (λ a. (a.status ≡ Status.Usage) ↔ (words.now ≢ [])) }
-    ensures unread { words.now ≢ [] → source.new ≡ source.old }
-    ensures words { IsErrOf result Silence.ReadFault → words.now ≡ [] }
+    ensures usage { IfOk result (λ a. a.status ≡ Status.Usage → IsNoCommand (map string_bytes words.now)) }
+    ensures words { IfOk result (λ a. IsNoCommand (map string_bytes words.now) → a.status ≡ Status.Usage) }
+    ensures unread { IsNoCommand (map string_bytes words.now) → source.new ≡ source.old }
+    ensures command { IsErrOf result Silence.ReadFault → AreCommand (map string_bytes words.now) }
     ensures fault { IsErrOf result Silence.ReadFault → Rose (S.faults source.old) (S.faults source.new) }
 {
-    if words.is_empty() {
-        return read_answer(alloc, source);
+    match command_of(words, false) {
+        Ok(command) => read_answer(alloc, words, &command, source),
+        Err(WordsFault::NotACommand) => usage(alloc, words),
+        Err(WordsFault::Memory(_)) => Err(Silence::OutOfMemory),
     }
+}
+
+/// The line that says how the program is called.
+fn usage(alloc: Global, words: &[String]) -> Result<Answer, Silence>
+    requires { IsNoCommand (map string_bytes words.now) }
+    ensures usage { IfOk result (λ a. a ≡ usage_outcome) }
+    ensures quiet { IsErrOf result Silence.ReadFault → ⊥ }
+{
+    let _count = words.len();
     match print_usage(alloc, false) {
         Ok(text) => Ok(Answer {
             status: Status::Usage,
@@ -83,21 +97,28 @@ fn prepared<S: Source>(alloc: Global, words: &[String], source: &mut S) -> Resul
     }
 }
 
-/// What is to be written for what is read of the source.
-fn read_answer<S: Source>(alloc: Global, source: &mut S) -> Result<Answer, Silence>
+/// What is to be written for what is read of the source, where the words are this command.
+fn read_answer<S: Source>(
+    alloc: Global,
+    words: &[String],
+    command: &Command,
+    source: &mut S,
+) -> Result<Answer, Silence>
+    requires { IsCommand false (map string_bytes words.now) command.now }
     ensures expected { IfOk result (λ a. IfSome (S.left source.old) (λ bytes.
-        IsExpected VARS [] bytes a)) }
+        IsExpectedAnswer VARS (map string_bytes words.now) bytes a)) }
     ensures leaves { IfOk result (λ a. IfSome (S.left source.old) (λ bytes.
         Leaves bytes (S.left source.new) a.status)) }
     ensures status { IfOk result (λ a. IsOfText a.status) }
     ensures fault { IsErrOf result Silence.ReadFault → Rose (S.faults source.old) (S.faults source.new) }
 {
+    let _count = words.len();
     let input = match read_all(alloc, source, MOST_BYTES) {
         Ok(input) => input,
         Err(ReadFail::Fault) => return Err(Silence::ReadFault),
         Err(ReadFail::Memory(_)) => return Err(Silence::OutOfMemory),
     };
-    match answer_to_input(alloc, &input) {
+    match answer_to_input(alloc, command, &input) {
         Ok(answer) => Ok(answer),
         Err(AllocError) => Err(Silence::OutOfMemory),
     }

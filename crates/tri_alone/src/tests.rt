@@ -1,31 +1,26 @@
-ghost use Rattle.std.specs.Prelude.{◌≤◌};
-
 use super::*;
 use std::alloc::{AllocError, Global};
 use std::process::Abort;
 use std::test::Fail;
 use tri_io::{MemSink, MemSource};
 
-const EXAMPLE: &[u8] = b"prime 5\norder x\nx^2 + 4\nx^2 + x + 3\n";
+const EXAMPLE: &[u8] = b"prime 5\norder x y\nx*y\n";
 
-const ROOM: usize = 1000;
+const ROOM: usize = 2000;
 
-/// Runs without words, where a call moves at most `most` bytes.
-fn check_run(
+/// Runs with these words.
+fn check_command(
     rt: &impl Abort,
     alloc: Global,
+    words: &[String],
     text: &[u8],
-    most: usize,
     status: Status,
     written: &[u8],
-) -> Result<(), Fail>
-    requires { 1 ≤ most }
-{
-    let mut source = MemSource::new(text.to_vec(alloc)?, most, Vec::new(alloc));
-    let mut sink = MemSink::new(alloc, ROOM, most, Vec::new(alloc))?;
-    let words = Vec::new(alloc);
+) -> Result<(), Fail> {
+    let mut source = MemSource::new(text.to_vec(alloc)?, 4096, Vec::new(alloc));
+    let mut sink = MemSink::new(alloc, ROOM, 4096, Vec::new(alloc))?;
     assert_eq!(rt;
-        run_alone(alloc, &words, &mut source, &mut sink),
+        run_alone(alloc, words, &mut source, &mut sink),
         status,
         "of {text:?}"
     );
@@ -33,47 +28,77 @@ fn check_run(
     Ok(())
 }
 
+/// Runs without words.
+fn check_run(
+    rt: &impl Abort,
+    alloc: Global,
+    text: &[u8],
+    status: Status,
+    written: &[u8],
+) -> Result<(), Fail> {
+    check_command(rt, alloc, &Vec::new(alloc), text, status, written)
+}
+
 #[test]
-fn a_system_of_one_variable_has_the_chain_of_its_divisor(rt: HostRuntime) -> Result<(), Fail> {
+fn a_system_has_the_chains_of_its_tree(rt: HostRuntime) -> Result<(), Fail> {
     for (text, written) in [
-        (EXAMPLE, b"chain -\npoly x + 4\nend 1\n".as_slice()),
-        (b"prime 5\norder x\n", b"chain -\nend 1\n"),
-        (b"prime 5\norder x\n3\n", b"end 0\n"),
-        (b"prime 5\norder x\n5*x\n", b"chain -\nend 1\n"),
-        (b"prime 5\norder x\n0\nx\n0\n", b"chain -\npoly x\nend 1\n"),
-        (b"prime 5\norder x\nx\nx + 1\n", b"end 0\n"),
-        (b"prime 5\norder x\nx^0\n", b"end 0\n"),
         (
-            b"prime 2\norder x\nx^65535\n",
-            b"chain -\npoly x^65535\nend 1\n",
-        ),
-        // 999,999,999,999,999,999 is -1 modulo 5.
-        (
-            b"prime 5\norder x_1\n999999999999999999*x_1 + 1\n",
-            b"chain -\npoly x_1 + 4\nend 1\n",
+            b"prime 5\norder x\n".as_slice(),
+            b"chain -\nend 1\n".as_slice(),
         ),
         (
-            b" prime  7 \norder  Ab \n - 2 * Ab ^ 3+Ab^2-Ab \n",
-            b"chain -\npoly Ab^3 + 3*Ab^2 + 4*Ab\nend 1\n",
-        ),
-        // A comment, an empty line, parentheses and no last line feed.
-        (
-            b"prime 5\n\n  # c\norder x\n(x + 1)*(x - 1)\nx^2 - 2*x + 1",
+            b"prime 5\norder x\nx^2 + 4\nx^2 + x + 3\n",
             b"chain -\npoly x + 4\nend 1\n",
         ),
+        (b"prime 5\norder x\n3\n", b"end 0\n"),
+        (b"prime 5\norder x\n5*x\n", b"chain -\nend 1\n"),
         (
-            b"prime 5\norder x\n(x+1)^64*(x^2+1)^2\nx^3+x^2+x+1\n",
-            b"chain -\npoly x^3 + x^2 + x + 1\nend 1\n",
+            b"prime 5\norder x y\nx*y\n",
+            b"chain 1\npoly y\nchain 2\npoly x\nend 2\n",
         ),
-        // x^12 - 1 and x^18 - 1 have the divisor x^6 - 1.
         (
-            b"prime 65537\norder x\nx^12 - 1\nx^18 - 1\n",
-            b"chain -\npoly x^6 + 65536\nend 1\n",
+            b"prime 5\norder x y\nx*y^2 + y + 1\n",
+            b"chain 1\npoly x*y^2 + y + 1\nchain 2\npoly x\npoly y + 1\nend 2\n",
         ),
+        (
+            b"prime 5\norder x y\nx*y + 4\nx^2 + 4*x\n",
+            b"chain 1\npoly x + 4\npoly x*y + 4\nend 1\n",
+        ),
+        (
+            b"prime 5\norder x y\nx^2 + 4*x\nx*y + 4\n",
+            b"chain 1\npoly x^2 + 4*x\npoly x*y + 4\nend 1\n",
+        ),
+        (
+            b"prime 5\norder a x y\nx^2 + 4*a\nx*y + 4\n",
+            b"chain 1\npoly x^2 + 4*a\npoly x*y + 4\nend 1\n",
+        ),
+        (
+            b"prime 5\norder x y\nx^2\nx*y\n",
+            b"chain 1\npoly x^2\npoly y\nchain 2\npoly x\nend 2\n",
+        ),
+        (
+            b"prime 2\norder x y\nx^2 - x\nx*y - 1\n",
+            b"chain 1\npoly x^2 + x\npoly x*y + 1\nend 1\n",
+        ),
+        (
+            b"prime 5\norder x y z\nx^2\ny^3 - y^2\n(x*y^2 + y - 1)*z - 1\n",
+            b"chain 1\npoly x^2\npoly y^3 + 4*y^2\npoly x*y^2*z + y*z + 4*z + 4\nend 1\n",
+        ),
+        (
+            b"prime 101\norder x y z\nx^2 + y + z - 1\nx + y^2 + z - 1\nx + y + z^2 - 1\n",
+            b"chain 1\npoly x^4 + 97*x^2 + 4*x + 100\npoly x^2*y + 52*x^2 + 99*x + 51\npoly z + y + x^2 + 100\nchain 2\npoly x^2\npoly y^2 + 100*y + 100*x^2 + x\npoly z + y + x^2 + 100\nend 2\n",
+        ),
+        (
+            b"prime 5\norder x\nx^65535\n",
+            b"chain -\npoly x^65535\nend 1\n",
+        ),
+        (
+            b"prime 5\norder x\n999999999999999999*x\n",
+            b"chain -\npoly x\nend 1\n",
+        ),
+        (b"prime 5\norder a b c d e f g h\n", b"chain -\nend 1\n"),
     ] {
-        for most in [1, 4, 4096] {
-            check_run(&rt, rt.alloc(), text, most, Status::Chains, written)?;
-        }
+        check_run(&rt, rt.alloc(), text, Status::Chains, written)?;
     }
     Ok(())
 }
@@ -106,100 +131,122 @@ fn a_text_that_is_no_system_has_its_refusal(rt: HostRuntime) -> Result<(), Fail>
             b"refused 11 line 3 byte 9\n",
         ),
         (b"prime 5\norder x\n\xff\n", b"refused 1 line 3 byte 1\n"),
-        // These are systems that aren't solved yet.
-        (b"prime 5\norder x y\nx\n", b"refused 14\n"),
-        (b"prime 5\norder a b c d e f g h\n", b"refused 14\n"),
     ] {
-        check_run(&rt, rt.alloc(), text, 4096, Status::Refused, written)?;
+        check_run(&rt, rt.alloc(), text, Status::Refused, written)?;
     }
     Ok(())
 }
 
-/// A system of one polynomial: its variable in `count` pairs of parentheses.
-fn nested(alloc: Global, count: u32) -> Result<Vec<u8>, AllocError> {
+/// The words of a line.
+fn words_of(alloc: Global, line: &str) -> Result<Vec<String>, AllocError> {
+    let mut words = Vec::new(alloc);
+    for word in line.split_whitespace() {
+        words.push(String::from_str(alloc, word)?)?;
+    }
+    Ok(words)
+}
+
+const SPHERES: &[u8] =
+    b"prime 101\norder x y z\nx^2 + y + z - 1\nx + y^2 + z - 1\nx + y + z^2 - 1\n";
+
+#[test]
+fn options_limit_a_run(rt: HostRuntime) -> Result<(), Fail> {
+    for (line, text, status, written) in [
+        (
+            "--steps 1",
+            b"prime 5\norder x y\nx*y^2 + y + 1\n".as_slice(),
+            Status::Stopped,
+            b"stopped 1 steps\n".as_slice(),
+        ),
+        (
+            "--width 1",
+            b"prime 5\norder x\nx^2 + 4\nx^2 + x + 3\n",
+            Status::Stopped,
+            b"stopped - size\n",
+        ),
+        (
+            "--steps=6",
+            SPHERES,
+            Status::Chains,
+            b"chain 1\npoly x^4 + 97*x^2 + 4*x + 100\npoly x^2*y + 52*x^2 + 99*x + 51\npoly z + y + x^2 + 100\nchain 2\npoly x^2\npoly y^2 + 100*y + 100*x^2 + x\npoly z + y + x^2 + 100\nend 2\n",
+        ),
+        ("--steps=5", SPHERES, Status::Stopped, b"stopped 1 steps\n"),
+        (
+            "--steps=7 --width 9",
+            b"prime 5\norder x\nx\n",
+            Status::Chains,
+            b"chain -\npoly x\nend 1\n",
+        ),
+        (
+            "--steps 05",
+            b"prime 5\norder x\n",
+            Status::Usage,
+            b"usage: triangularize_alone [--steps S] [--width W] [--made K]\n",
+        ),
+        (
+            "--",
+            b"prime 5\norder x\n",
+            Status::Usage,
+            b"usage: triangularize_alone [--steps S] [--width W] [--made K]\n",
+        ),
+        (
+            "--workers 2",
+            b"prime 5\norder x\n",
+            Status::Usage,
+            b"usage: triangularize_alone [--steps S] [--width W] [--made K]\n",
+        ),
+    ] {
+        let words = words_of(rt.alloc(), line)?;
+        check_command(&rt, rt.alloc(), &words, text, status, written)?;
+    }
+    Ok(())
+}
+
+/// A system of `count` lines `x + 1`.
+fn lines(alloc: Global, count: u32) -> Result<Vec<u8>, AllocError> {
     let mut text = b"prime 5\norder x\n".to_vec(alloc)?;
     for _ in 0..count {
-        text.push(b'(')?;
+        text.extend_from_slice(b"x + 1\n")?;
     }
-    text.push(b'x')?;
-    for _ in 0..count {
-        text.push(b')')?;
-    }
-    text.push(b'\n')?;
     Ok(text)
 }
 
 #[test]
-fn parentheses_nest_up_to_the_limit(rt: HostRuntime) -> Result<(), Fail> {
+fn each_input_takes_a_step(rt: HostRuntime) -> Result<(), Fail> {
+    let alloc = rt.alloc();
+    let text = lines(alloc, 1000)?;
+    for (line, status, written) in [
+        (
+            "--steps 1001",
+            Status::Chains,
+            b"chain -\npoly x + 1\nend 1\n".as_slice(),
+        ),
+        ("--steps 1000", Status::Stopped, b"stopped - steps\n"),
+    ] {
+        let words = words_of(alloc, line)?;
+        check_command(&rt, alloc, &words, &text, status, written)?;
+    }
+    Ok(())
+}
+
+/// A system without polynomials, with a comment of `count` bytes.
+fn commented(alloc: Global, count: u32) -> Result<Vec<u8>, AllocError> {
+    let mut text = b"prime 5\norder x\n".to_vec(alloc)?;
+    for _ in 0..count {
+        text.push(b'#')?;
+    }
+    Ok(text)
+}
+
+#[test]
+fn a_text_has_as_many_bytes_as_are_read(rt: HostRuntime) -> Result<(), Fail> {
     let alloc = rt.alloc();
     for (count, status, written) in [
-        (64, Status::Chains, b"chain -\npoly x\nend 1\n".as_slice()),
-        (65, Status::Refused, b"refused 12 line 3 byte 65\n"),
+        (1_048_560, Status::Chains, b"chain -\nend 1\n".as_slice()),
+        (1_048_561, Status::Refused, b"refused 13\n"),
     ] {
-        check_run(&rt, alloc, &nested(alloc, count)?, 4096, status, written)?;
+        check_run(&rt, alloc, &commented(alloc, count)?, status, written)?;
     }
-    Ok(())
-}
-
-/// A system of `count` lines `x`.
-fn lines(alloc: Global, count: u32) -> Result<Vec<u8>, AllocError> {
-    let mut text = b"prime 3\norder x\n".to_vec(alloc)?;
-    for _ in 0..count {
-        text.extend_from_slice(b"x\n")?;
-    }
-    Ok(text)
-}
-
-/// A system with `count` bytes in its last line: the number 0 behind spaces, and a line feed.
-fn long_line(alloc: Global, count: u32) -> Result<Vec<u8>, AllocError> {
-    let mut text = b"prime 3\norder x\n".to_vec(alloc)?;
-    for _ in 0..count {
-        text.push(b' ')?;
-    }
-    text.extend_from_slice(b"0\n")?;
-    Ok(text)
-}
-
-#[test]
-fn lines_and_bytes_are_bounded(rt: HostRuntime) -> Result<(), Fail> {
-    let alloc = rt.alloc();
-    let unsolved = b"refused 14\n".as_slice();
-    let too_long = b"refused 13\n".as_slice();
-    for (text, status, written) in [
-        (
-            lines(alloc, 9_999)?,
-            Status::Chains,
-            b"chain -\npoly x\nend 1\n".as_slice(),
-        ),
-        (lines(alloc, 10_000)?, Status::Refused, unsolved),
-        (
-            long_line(alloc, 1_048_558)?,
-            Status::Chains,
-            b"chain -\nend 1\n",
-        ),
-        (long_line(alloc, 1_048_559)?, Status::Refused, too_long),
-    ] {
-        check_run(&rt, alloc, &text, 4096, status, written)?;
-    }
-    Ok(())
-}
-
-#[test]
-fn words_are_no_command(rt: HostRuntime) -> Result<(), Fail> {
-    let alloc = rt.alloc();
-    let words = [
-        String::from_str(alloc, "--steps")?,
-        String::from_str(alloc, "5")?,
-    ];
-    // The first read would fail.
-    let mut source = MemSource::new(Vec::new(alloc), 1, vec![in alloc; 1; 1]?);
-    let mut sink = MemSink::new(alloc, ROOM, ROOM, Vec::new(alloc))?;
-    let status = run_alone(alloc, &words, &mut source, &mut sink);
-    assert_eq!(rt; status, Status::Usage);
-    assert_eq!(rt;
-        sink.bytes(),
-        b"usage: triangularize_alone [--steps S] [--width W] [--made K]\n".as_slice()
-    );
     Ok(())
 }
 
