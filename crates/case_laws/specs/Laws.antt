@@ -12,7 +12,7 @@ use Rattle.tree_laws.specs.Points.{SomeOf, IsKeptBy, IfEmitted}
 use Rattle.tree_laws.specs.Laws.{KeepsLaw}
 use Rattle.case_laws.specs.Lawful.{AreLawfulPolynomials, IsLawfulChain, IsLawfulTask}
 
--- the step of a lawful task is lawful, and so is the root
+-- the step of a lawful task is lawful
 abbrev pub CaseStepsKeepLaw : Type 0
 CaseStepsKeepLaw = (p n k w : ℕ) (inputs : List Polynomial) → IsPrime p → AreLawfulPolynomials p n k inputs → KeepsLaw (case_step p n w inputs) (IsLawfulTask p n k) (IsLawfulChain p n k)
 
@@ -25,8 +25,7 @@ abbrev pub RootsStartWell : Type 0
 RootsStartWell = (p n k : ℕ) (inputs : List Polynomial) → AreLawfulPolynomials p n k inputs → StartsWell p n k inputs
 
 -- no step loses a common zero of the inputs, in any finite domain of the characteristic: a point of
--- the task is one of a child, or of the triangular set
--- that is emitted
+-- the task is one of a child, or of the triangular set that is emitted
 abbrev pub CaseStepsLoseNoZero : Type 0
 CaseStepsLoseNoZero = (p n k w : ℕ) (inputs : List Polynomial) (task : Task) (r : Tables) (xs : List ℕ) → IsPrime p → AreLawfulPolynomials p n k inputs → IsLawfulTask p n k task → IsFiniteDomain p r → IsPoint r xs → InZeroSet r xs inputs → InTask r xs task → IsKeptBy (InTask r xs) (InQuasiComponent r xs) (case_step p n w inputs task)
 

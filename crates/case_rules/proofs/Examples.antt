@@ -1,4 +1,5 @@
--- Whole trees of small systems modulo 5, and steps of empty queues, worked by an independent program.
+-- Whole trees of small systems modulo 5, and steps of empty queues, with results that were found
+-- independently.
 use Rattle.std.proofs.Common.{◌≡◌, ℕ, List, [], ◌∷◌, Some, None, refl}
 use Rattle.polynomials.specs.Polynomials.{Term, term, Polynomial}
 use Rattle.split_paths.specs.declared.event.Event.{Event}

@@ -19,6 +19,7 @@ ChildrenCoverTheTask = (p n w : ℕ) (task : Task) (f : Polynomial) (rest : List
 abbrev pub ChildrenKeepTheForm : Type 0
 ChildrenKeepTheForm = (p n w : ℕ) (task : Task) (f : Polynomial) (rest : List Polynomial) → IsPrime p → IsTaskOver p n task → IsTriangular task.chain → task.queue ≡ f ∷ rest → IfSome (impose_children p n w task.chain rest task.nonzero f) (AllByRecursion (KeepsForm p n task))
 
--- there are no more children than 2, or than the greatest degree of the triangular set
+-- where no degree of the triangular set, in whatever variable, passes d, there are at most max 2 d
+-- children
 abbrev pub ChildrenAreFew : Type 0
 ChildrenAreFew = (p n w d : ℕ) (task : Task) (f : Polynomial) (rest : List Polynomial) → IsPrime p → IsTaskOver p n task → IsTriangular task.chain → task.queue ≡ f ∷ rest → AllByRecursion (λ t. (v : ℕ) → degree_in v t ≤ d) task.chain → IfSome (impose_children p n w task.chain rest task.nonzero f) (λ children. length children ≤ max 2 d)

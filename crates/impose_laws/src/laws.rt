@@ -10,7 +10,8 @@ pub fn children_keep_the_form()
     ensures { ChildrenKeepTheForm }
 {}
 
-/// The degrees of the triangular set bound the number of children.
+/// Where no polynomial of the triangular set has a degree above `d`, there are at most `max 2 d`
+/// children.
 pub fn children_are_few()
     ensures { ChildrenAreFew }
 {}

@@ -1,4 +1,4 @@
--- Steps whose polynomial has a new main variable, or none, worked by an independent program.
+-- Steps whose polynomial has a new main variable, or none, with results that were found independently.
 use Rattle.std.proofs.Common.{◌≡◌, ℕ, List, [], ◌∷◌, refl}
 use Rattle.polynomials.specs.Polynomials.{Term, term, Polynomial}
 use Rattle.zero_sets.specs.Tasks.{Task}

@@ -1,4 +1,4 @@
--- Steps by remainder rows, worked by an independent program.
+-- Steps by remainder rows, with results that were found independently.
 use Rattle.std.proofs.Common.{◌≡◌, true, false, ℕ, List, [], ◌∷◌, refl}
 use Rattle.polynomials.specs.Polynomials.{Term, term, Polynomial}
 use Rattle.zero_sets.specs.Tasks.{Task}

@@ -15,9 +15,12 @@ use sparse_poly::{Poly, Work};
 use split_paths::{Step, Tasks};
 use std::alloc::{AllocError, Global};
 
-/// Imposes the first polynomial of the queue on the chain. Reduced by the chain it joins it where its
-/// initial and the leads of its remainder rows don't vanish; each of those that may vanish makes a
-/// child of its own.
+/// Imposes the first polynomial of the queue on the chain. It is reduced by the chain, loses
+/// factors that don't vanish, and becomes monic. Where it is 0 then, the one child is the rest of
+/// the task; where it is another constant, there is none. Else in the first child no lead vanishes,
+/// and its chain has a member at the main variable: the polynomial itself where there was none, and
+/// else the last of the remainder rows of the member there and the polynomial, provided that a zero
+/// row follows. Each lead that may vanish, the initial among them, makes a further child.
 pub fn impose(alloc: Global, w: Work, task: Task) -> Result<Step<Task, Chain>, AllocError>
     requires over { IsTaskOver w.field VARS task }
     requires queue { task.queue ≢ [] }

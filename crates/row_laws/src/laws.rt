@@ -56,12 +56,12 @@ pub fn remainders_have_less_degree()
     ensures { RemaindersHaveLessDegree }
 {}
 
-/// Divisions don't raise degrees in variables that the divisor doesn't have.
+/// Divisions don't raise degrees in other variables than theirs, where the divisor lacks them.
 pub fn divisions_keep_degrees()
     ensures { DivisionsKeepDegrees }
 {}
 
-/// Nor do reductions.
+/// Nor do reductions by a triangular set that doesn't have the variable.
 pub fn reductions_keep_degrees()
     ensures { ReductionsKeepDegrees }
 {}
