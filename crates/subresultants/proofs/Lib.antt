@@ -11,3 +11,4 @@ pub mod Clauses
 pub mod PolynomialRemainders
 pub mod OneQuotients
 pub mod LastLeads
+pub mod CofactorClauses

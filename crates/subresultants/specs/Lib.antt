@@ -2,3 +2,4 @@ pub mod Generators
 pub mod Outcomes
 pub mod Turns
 pub mod Shape
+pub mod Cofactors

@@ -5,6 +5,7 @@ ghost use Rattle.division_rules.specs.PolynomialRows.{IsPolynomialRow, ArePolyno
 ghost use Rattle.division_rules.specs.Units.{IsCombinationOf};
 ghost use Rattle.pseudo_division.specs.FieldOperations.{operations};
 ghost use Rattle.row_laws.specs.Words.{first_entries, StartRemainderRows};
+ghost use Rattle.subresultants.specs.Cofactors.{IfCommon, HasCofactorSteps, VanishesByLeads, ShowsLeadWhereReduced};
 ghost use Rattle.subresultants.specs.Outcomes.{outcome_of, remainders_of};
 ghost use Rattle.subresultants.specs.Shape.{EachRemainderRow, IfRows, HasFallingDegrees, IsReducedFromRowOne, HasNonzeroLeads, IfCoprime, EndsWithItsLead, VanishesWithGenerators};
 
@@ -50,6 +51,14 @@ pub fn remainder_rows(
     ensures last { IfOk result (IfCoprime EndsWithItsLead) }
     ensures zeros { IfOk result (IfRows
         (VanishesWithGenerators w.field (c.now ∷ t.now ∷ below.now))) }
+
+    // Of the cofactor of c, from row to row to the zero row, and of the latter at points.
+    ensures steps { cofactors ≡ true → IfOk result (IfCommon
+        (HasCofactorSteps w.field w.width v below.now)) }
+    ensures lead { cofactors ≡ true → IfOk result (IfCommon
+        (VanishesByLeads w.field v t.now below.now)) }
+    ensures shown { cofactors ≡ true → IfOk result (IfCommon
+        (ShowsLeadWhereReduced w.field v c.now t.now below.now)) }
 {
     // Tells that the modulus is prime.
     let _ = w.field.prime();

@@ -6,10 +6,12 @@ use Rattle.division_rules.specs.Rows.{Row}
 use Rattle.division_rules.specs.PolynomialRows.{IsPolynomialRow, ArePolynomialRows}
 use Rattle.division_rules.specs.Units.{IsCombinationOf}
 use Rattle.pseudo_division.specs.FieldOperations.{operations}
+use Rattle.subresultants.specs.Cofactors.{IfCommon, HasCofactorSteps, VanishesByLeads, ShowsLeadWhereReduced}
 use Rattle.subresultants.specs.Generators.{generator_row}
 use Rattle.subresultants.specs.Outcomes.{remainders_of}
 use Rattle.subresultants.specs.Shape.{EachRemainderRow, IfRows, HasFallingDegrees, IsReducedFromRowOne, HasNonzeroLeads, IfCoprime, EndsWithItsLead, VanishesWithGenerators}
 use Rattle.subresultants.specs.declared.outcome.Remainders.{Remainders}
+use Rattle.subresultants.proofs.CofactorClauses.{cofactor_steps, cofactor_lead, reduced_cofactor}
 use Rattle.subresultants.proofs.PolynomialRemainders.{if_ok, few_below, t_canonical, c_canonical, rows_canonical, same_start, same_counts, same_outcome, over, falls, last_lead, leads, reduced, zeros, combinations, no_cofactors}
 use Rattle.subresultants.proofs.sequence.remainder_rows.Goals as goal
 
@@ -85,3 +87,12 @@ returns-clause-last c = if_ok (IfCoprime EndsWithItsLead) (remainders_of c.args.
 
 pub returns-clause-zeros : goal.returns-clause-zeros
 returns-clause-zeros c = if_ok (IfRows (VanishesWithGenerators c.args.w.field (c.args.c.now ∷ c.args.t.now ∷ c.args.below.now))) (remainders_of c.args.w.field c.args.w.width c.args.v c.args.cofactors c.args.t.now c.args.c.now c.args.below.now) c.rows_of.result (returns-clause-value c) (zeros c.args.w.field c.args.w.width c.args.v c.args.cofactors c.prime.ensures.prime c.args.t.now c.args.c.now c.args.below.now c.requires.first c.requires.second c.requires.chain c.requires.start)
+
+pub returns-clause-steps : goal.returns-clause-steps
+returns-clause-steps c with_cofactors = if_ok (IfCommon (HasCofactorSteps c.args.w.field c.args.w.width c.args.v c.args.below.now)) (remainders_of c.args.w.field c.args.w.width c.args.v c.args.cofactors c.args.t.now c.args.c.now c.args.below.now) c.rows_of.result (returns-clause-value c) (subst (λ (b : Bool). IfCommon (HasCofactorSteps c.args.w.field c.args.w.width c.args.v c.args.below.now) (remainders_of c.args.w.field c.args.w.width c.args.v b c.args.t.now c.args.c.now c.args.below.now)) (sym with_cofactors) (cofactor_steps c.args.w.field c.args.w.width c.args.v c.prime.ensures.prime c.args.t.now c.args.c.now c.args.below.now c.requires.first c.requires.second c.requires.chain c.requires.start))
+
+pub returns-clause-lead : goal.returns-clause-lead
+returns-clause-lead c with_cofactors = if_ok (IfCommon (VanishesByLeads c.args.w.field c.args.v c.args.t.now c.args.below.now)) (remainders_of c.args.w.field c.args.w.width c.args.v c.args.cofactors c.args.t.now c.args.c.now c.args.below.now) c.rows_of.result (returns-clause-value c) (subst (λ (b : Bool). IfCommon (VanishesByLeads c.args.w.field c.args.v c.args.t.now c.args.below.now) (remainders_of c.args.w.field c.args.w.width c.args.v b c.args.t.now c.args.c.now c.args.below.now)) (sym with_cofactors) (cofactor_lead c.args.w.field c.args.w.width c.args.v c.prime.ensures.prime c.args.t.now c.args.c.now c.args.below.now c.requires.first c.requires.second c.requires.chain c.requires.start))
+
+pub returns-clause-shown : goal.returns-clause-shown
+returns-clause-shown c with_cofactors = if_ok (IfCommon (ShowsLeadWhereReduced c.args.w.field c.args.v c.args.c.now c.args.t.now c.args.below.now)) (remainders_of c.args.w.field c.args.w.width c.args.v c.args.cofactors c.args.t.now c.args.c.now c.args.below.now) c.rows_of.result (returns-clause-value c) (subst (λ (b : Bool). IfCommon (ShowsLeadWhereReduced c.args.w.field c.args.v c.args.c.now c.args.t.now c.args.below.now) (remainders_of c.args.w.field c.args.w.width c.args.v b c.args.t.now c.args.c.now c.args.below.now)) (sym with_cofactors) (reduced_cofactor c.args.w.field c.args.w.width c.args.v c.prime.ensures.prime c.args.t.now c.args.c.now c.args.below.now c.requires.first c.requires.second c.requires.chain c.requires.start))
