@@ -1,8 +1,8 @@
 -- The greater exponents of two monomials, from the greatest variable down.
-use Rattle.std.proofs.Common.{◌≡◌, ℕ, zero, suc, ◌+◌, ◌*◌, ◌-◌, ◌%◌, ◌^◌, ◌<◌, ◌≤◌, max, ◌∷◌, length, drop, sym, ◌∙◌, ap, ap₂, arith, lit<, drop-cons}
+use Rattle.std.proofs.Common.{◌≡◌, ℕ, zero, suc, ◌+◌, ◌*◌, ◌-◌, ◌%◌, ◌^◌, ◌<◌, ◌≤◌, max, [], ◌∷◌, length, drop, refl, sym, ◌∙◌, ap, ap₂, arith, lit<, drop-cons}
 use Rattle.std.proofs.Math.Nat.{pow-suc, pow-le-pow_right, mod-eq_of_lt}
 use Rattle.std.proofs.Math.ListN.{drop_of_length-le}
-use Rattle.polynomials.specs.Monomials.{Monomial, exponent_of}
+use Rattle.polynomials.specs.Monomials.{Monomial, exponent_of, MonomialDivides}
 use Rattle.polynomials.specs.Fits.{greater_exponents}
 use Rattle.mono_words.specs.Words.{exponents}
 
@@ -56,3 +56,10 @@ none_yet l m first second =
       below = lit< tt;
       same = sym (ap₂ greater_exponents (drop_of_length-le l {i = 8} (omega arith)) (drop_of_length-le m {i = 8} (omega arith)));
     }
+
+-- of a multiple and a divisor the multiple has the greater exponents
+pub greater_exponents-multiple : (l m : Monomial) → length l ≡ length m → MonomialDivides m l → greater_exponents l m ≡ l
+greater_exponents-multiple [] [] same divides = refl
+greater_exponents-multiple [] (e ∷ m) same divides = cc
+greater_exponents-multiple (d ∷ l) [] same divides = refl
+greater_exponents-multiple (d ∷ l) (e ∷ m) same divides = ap₂ ◌∷◌ (let least = divides 0 in omega arith) (greater_exponents-multiple l m (omega arith) (λ v. divides (suc v)))

@@ -129,6 +129,19 @@ impl Mono {
     {
         self.shape();
         other.shape();
+        // Along a polynomial the multiple of the terms before is mostly one of the next term too.
+        if other.divides(self) {
+            return self;
+        }
+        self.each_greater_exponent(other)
+    }
+
+    /// The least common multiple, by one exponent after the other.
+    fn each_greater_exponent(self, other: Mono) -> Mono
+        ensures { result ≡ greater_exponents self other }
+    {
+        self.shape();
+        other.shape();
         let mut word: u128 = 0;
         for v in (0..VARS).rev() {
             let greater = self.exponent(v).max(other.exponent(v));

@@ -149,6 +149,10 @@ fn single_exponents_are_replaced(rt: HostRuntime) {
     let both = monomial(&rt, [3, 7, 4, 8, 5, 9, 2, 65535]);
     assert_eq!(rt; whole.max_exponents(other), both);
     assert_eq!(rt; other.max_exponents(whole), both);
+    // Of a divisor and a multiple it is the multiple.
+    let divisor = monomial(&rt, [2, 0, 4, 1, 5, 8, 0, 65535]);
+    assert_eq!(rt; whole.max_exponents(divisor), whole);
+    assert_eq!(rt; divisor.max_exponents(whole), whole);
 }
 
 fn crosses_threads<T: Send + Sync + Drop>(_value: T) {}

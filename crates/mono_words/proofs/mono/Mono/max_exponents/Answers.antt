@@ -1,14 +1,7 @@
--- Each round puts one greater exponent below those of the greater variables.
-use Rattle.std.proofs.Common.{◌∙◌, max, ap₂}
-use Rattle.mono_words.proofs.Largest.{none_yet, next_shifted}
+-- Where the other monomial divides this one, no exponent of it is greater.
+use Rattle.std.proofs.Common.{sym, ◌∙◌}
+use Rattle.mono_words.proofs.Largest.{greater_exponents-multiple}
 use Rattle.mono_words.proofs.mono.Mono.max_exponents.Goals as goal
 
-pub loop-v-init : goal.loop-v-init
-loop-v-init c = none_yet c.args.self c.args.other c.shape.ensures.variables c.shape-2.ensures.variables
-
-pub loop-v-preserved : goal.loop-v-preserved
-loop-v-preserved c =
-    next_shifted c.args.self c.args.other c.loop-v.v c.loop-v.word c.max-greater.result
-    c.shape.ensures.variables c.shape-2.ensures.variables c.max-greater.type_inv
-    (c.max-greater.ensures ∙ ap₂ max c.exponent.ensures c.exponent-in-loop-v.ensures)
-    c.loop-v-test.true c.loop-v.invariant
+pub returns-then-divides : goal.returns-then-divides
+returns-then-divides c = sym (greater_exponents-multiple c.args.self c.args.other (c.shape.ensures.variables ∙ sym c.shape-2.ensures.variables) (c.divides.ensures.0 c.if-divides.true))
