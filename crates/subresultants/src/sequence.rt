@@ -53,11 +53,11 @@ pub fn remainder_rows(
         (VanishesWithGenerators w.field (c.now ∷ t.now ∷ below.now))) }
 
     // Of the cofactor of c, from row to row to the zero row, and of the latter at points.
-    ensures steps { cofactors ≡ true → IfOk result (IfCommon
+    ensures cofactor_steps { cofactors ≡ true → IfOk result (IfCommon
         (HasCofactorSteps w.field w.width v below.now)) }
-    ensures lead { cofactors ≡ true → IfOk result (IfCommon
+    ensures cofactor_lead { cofactors ≡ true → IfOk result (IfCommon
         (VanishesByLeads w.field v t.now below.now)) }
-    ensures shown { cofactors ≡ true → IfOk result (IfCommon
+    ensures shown_lead { cofactors ≡ true → IfOk result (IfCommon
         (ShowsLeadWhereReduced w.field v c.now t.now below.now)) }
 {
     // Tells that the modulus is prime.
