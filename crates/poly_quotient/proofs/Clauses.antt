@@ -1,9 +1,9 @@
 -- What a call says of a quotient, from what the quotient is.
-use Rattle.std.proofs.Common.{◌≡◌, ◌≢◌, ℕ, ◌+◌, ◌<◌, true, [], ◌∷◌, Option, Some, None, IfSome, IfNone, All, sym, ap, ◌∙◌, arith}
+use Rattle.std.proofs.Common.{◌≡◌, ◌≢◌, ℕ, ◌+◌, ◌<◌, true, [], ◌∷◌, ◌++◌, subst, Option, Some, None, IfSome, IfNone, All, sym, ap, ◌∙◌, arith}
 use Rattle.std.proofs.lemmas.List.Elements.{All-nil, All-cons}
 use Rattle.polynomials.specs.Primes.{IsPrime}
 use Rattle.polynomials.specs.Monomials.{Monomial, exponent_of, monomial_product, MonomialDivides}
-use Rattle.polynomials.specs.Polynomials.{Term, Polynomial, IsPolynomial, product_of}
+use Rattle.polynomials.specs.Polynomials.{Term, term, Polynomial, IsPolynomial, product_of}
 use Rattle.polynomials.specs.Views.{degree_in}
 use Rattle.polynomials.specs.Fits.{fits}
 use Rattle.polynomials.proofs.Exponents.{exponent_of-product}
@@ -13,6 +13,7 @@ use Rattle.division_rules.specs.Quotients.{quotient_within}
 use Rattle.division_rules.proofs.Quotients.{quotient_within_exact, quotient_within_fits, quotient_within_of_zero, IsPolynomial-quotient_within}
 use Rattle.division_rules.proofs.QuotientFacts.{quotient_within_degree}
 use Rattle.division_rules.proofs.QuotientCases.{quotient_within_none, quotient_within_none_iff}
+use Rattle.poly_quotient.proofs.LastTerms.{last_divides}
 
 -- the coefficients of a polynomial are residues
 pub All_residues : (p n : ℕ) (f : Polynomial) → IsPolynomial p n f → All (λ (t : Term). t.1 < p) f
@@ -26,6 +27,10 @@ module _ (p n w : ℕ) (prime : IsPrime p) (a b : Polynomial) (i : IsPolynomial 
   -- 0 has the quotient 0
   pub quotient_of_zero : a ≡ [] → quotient_within p w a b ≡ Some []
   quotient_of_zero none = ap (λ x. quotient_within p w x b) none ∙ quotient_within_of_zero p w b nonzero
+
+  -- there is no quotient where the last monomial of the divisor doesn't divide that of the dividend
+  pub none_of_last : (l m : Monomial) → (g : Polynomial) × ((d : ℕ) × (b ≡ g ++ term l d ∷ [])) → (f : Polynomial) × ((c : ℕ) × (a ≡ f ++ term m c ∷ [])) → (MonomialDivides l m → ⊥) → quotient_within p w a b ≡ None
+  none_of_last l m at_b at_a undivided = quotient_within_none p w a b (λ q e. undivided (last_divides p n (term m at_a.1.0) (term l at_b.1.0) q at_a.0 at_b.0 prime (IsPolynomial-quotient_within p n w a b q positive i j e) (subst (IsPolynomial p n) at_b.1.1 j) (ap (product_of p q) (sym at_b.1.1) ∙ (quotient_within_exact p w a b q e ∙ at_a.1.1))))
 
   module _ (low high : Monomial) (degrees_b : (v : ℕ) → exponent_of v low ≡ degree_in v b) (degrees_a : (v : ℕ) → exponent_of v high ≡ degree_in v a) where
     -- there is no quotient where a degree of the divisor is greater

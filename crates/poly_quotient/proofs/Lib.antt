@@ -3,6 +3,7 @@ pub mod Clauses
 pub mod Removals
 pub mod Members
 pub mod SingleTerms
+pub mod LastTerms
 pub mod RestSums
 pub mod RestItems
 pub mod RestTurns

@@ -4,6 +4,7 @@
 mod degrees;
 mod division;
 mod factors;
+mod last;
 mod quotient;
 mod rest;
 mod single;

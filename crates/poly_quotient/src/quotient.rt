@@ -6,6 +6,7 @@ ghost use Rattle.division_rules.specs.Quotients.{quotient_within};
 
 use crate::degrees::degrees;
 use crate::division::divided;
+use crate::last::last_monomial;
 use mono_words::VARS;
 use sparse_poly::{Poly, Work};
 use std::alloc::{AllocError, Global};
@@ -28,7 +29,7 @@ pub fn quo(alloc: Global, w: Work, a: &Poly, b: &Poly) -> Result<Option<Poly>, A
     found(alloc, w, a, b)
 }
 
-/// The quotient, with a look at the degrees first.
+/// The quotient, with a look at the last monomials and the degrees first.
 fn found(alloc: Global, w: Work, a: &Poly, b: &Poly) -> Result<Option<Poly>, AllocError>
     requires left { IsPolynomial w.field VARS a.now }
     requires right { IsPolynomial w.field VARS b.now }
@@ -39,6 +40,11 @@ fn found(alloc: Global, w: Work, a: &Poly, b: &Poly) -> Result<Option<Poly>, All
     let _ = w.field.prime();
     if a.is_zero() {
         return Ok(Some(Poly::zero(alloc)));
+    }
+    // The last monomial of a product is the product of the last monomials.
+    let (last, by) = (last_monomial(a.terms()), last_monomial(b.terms()));
+    if !by.divides(last) {
+        return Ok(None);
     }
     let (high, low) = (degrees(a.terms()), degrees(b.terms()));
     if !low.divides(high) {

@@ -145,6 +145,52 @@ fn products_that_cancel_leave_no_term(rt: HostRuntime) -> Result<(), Fail> {
 }
 
 #[test]
+fn there_is_no_quotient_where_the_last_monomial_does_not_divide(
+    rt: HostRuntime,
+) -> Result<(), Fail> {
+    let alloc = rt.alloc();
+    let w = Work {
+        field: Field::of(5)?,
+        width: 10000,
+    };
+    // By the first terms alone division goes on for 39 terms.
+    let power = [(40, 0, 1), (0, 0, 4)];
+    assert!(rt; gives(alloc, w, &power, &[(2, 0, 1), (1, 0, 4)], None)?);
+    let y_plus_x = [(0, 1, 1), (1, 0, 1)];
+    assert!(rt;
+        gives(
+            alloc,
+            w,
+            &[(0, 40, 1), (40, 1, 1), (0, 0, 4)],
+            &y_plus_x,
+            None
+        )?
+    );
+    // The last monomial x*y has the greater exponent of y.
+    let y_times_y_plus_x = [(0, 2, 1), (1, 1, 1)];
+    assert!(rt; gives(alloc, w, &[(0, 40, 1), (40, 0, 1)], &y_times_y_plus_x, None)?);
+    Ok(())
+}
+
+#[test]
+fn last_monomials_that_divide_do_not_make_a_quotient(rt: HostRuntime) -> Result<(), Fail> {
+    let alloc = rt.alloc();
+    let w = Work {
+        field: Field::of(5)?,
+        width: 10000,
+    };
+    let x_plus_four = [(1, 0, 1), (0, 0, 4)];
+    let y_plus_x = [(0, 1, 1), (1, 0, 1)];
+    // At x = 1 the dividend is 2, and at y = 4*x it is 2*x^2.
+    assert!(rt; gives(alloc, w, &[(40, 0, 1), (0, 0, 1)], &x_plus_four, None)?);
+    assert!(rt; gives(alloc, w, &[(0, 2, 1), (2, 0, 1)], &y_plus_x, None)?);
+    // Both last monomials have x, and here there is a quotient.
+    let product = [(2, 1, 1), (1, 1, 1), (3, 0, 1), (2, 0, 1)];
+    assert!(rt; gives(alloc, w, &product, &y_plus_x, Some(&[(2, 0, 1), (1, 0, 1)]))?);
+    Ok(())
+}
+
+#[test]
 fn a_quotient_may_have_many_more_terms(rt: HostRuntime) -> Result<(), Fail> {
     let alloc = rt.alloc();
     let field = Field::of(5)?;
