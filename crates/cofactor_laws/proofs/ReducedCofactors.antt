@@ -1,5 +1,6 @@
 -- What follows where the zero row's first cofactor reduces to 0.
 use Rattle.std.proofs.Common.{◌≡◌, ℕ, zero, suc, ◌<◌, ◌≤◌, List, [], ◌∷◌, ◌++◌, length, replicate, get_or, Some, refl, sym, ap, ◌∙◌, subst, arith}
+use Rattle.std.proofs.lemmas.Option.{same_Some}
 use Rattle.polynomials.specs.Primes.{IsPrime}
 use Rattle.polynomials.specs.Polynomials.{Polynomial, IsPolynomial, ArePolynomials, one_of}
 use Rattle.polynomials.specs.Views.{degree_in, main_var, IsFreeOf}
@@ -21,7 +22,6 @@ use Rattle.division_rules.proofs.FreeNonzero.{one_free_nonzero}
 use Rattle.division_rules.proofs.ListLaws.{free_above_main}
 use Rattle.division_rules.proofs.PolynomialSetting.{polynomial_setting}
 use Rattle.division_rules.proofs.Up.{down_canonical, down_all_canonical}
-use Rattle.division_rules.proofs.Identity.{some_same}
 use Rattle.row_laws.specs.Words.{first_entries, reduction_of, AreBelow, IsReducedBy, StartRemainderRows}
 use Rattle.row_laws.specs.Degrees.{AreFreeOf, IsRowFreeOf}
 use Rattle.row_laws.proofs.FallingRows.{remainder_rows_fall, remainder_rows_are_free}
@@ -48,7 +48,7 @@ last_occurs p n v g (h ∷ later) z falls = last_occurs p n v h later z falls.2
 
 -- behind t main variables are greater than that of t
 pub main_variables_behind : (u v : ℕ) (chain more : List Polynomial) (t : Polynomial) → main_var t ≡ Some v → IsTriangularFrom u (chain ++ t ∷ more) → IsTriangularFrom (suc v) more
-main_variables_behind u v [] more t main (m, is, up_to, later) = subst (λ x. IsTriangularFrom (suc x) more) (some_same m v (sym is ∙ main)) later
+main_variables_behind u v [] more t main (m, is, up_to, later) = subst (λ x. IsTriangularFrom (suc x) more) (same_Some m v (sym is ∙ main)) later
 main_variables_behind u v (s ∷ chain) more t main (m, is, up_to, later) = main_variables_behind (suc m) v chain more t main later
 
 -- no polynomial with a lesser main variable has x
@@ -111,13 +111,13 @@ module _ (p n w v : ℕ) (c t : Polynomial) (chain : List Polynomial) (z : Row P
     where
       by_s : HasLessDegree a (plain s)
       by_s x is_x =
-          let greater : v < x = subst (λ y. v < y) (some_same m x (sym is ∙ is_x)) (omega (arith, less, up_to)) in
+          let greater : v < x = subst (λ y. v < y) (same_Some m x (sym is ∙ is_x)) (omega (arith, less, up_to)) in
           let none : degree_in x a ≡ 0 = lacks_greater x greater main (subst (λ o. LacksVariable o c) is_x free.0) in
           let some : 0 < degree_in x s = degree_in_main_var x s is_x in
           omega (arith, none, some)
 
   pub reduced_from_t : (more : List Polynomial) → StandsInTriangular p n v c t chain more → IsReducedBy a (t ∷ more)
-  reduced_from_t more stands = ((λ x is. subst (λ y. degree_in y a < degree_in y t) (some_same v x (sym stands.main ∙ is)) less_than_t), reduced_behind (suc v) more (omega arith) stands.main (main_variables_behind 0 v chain more t stands.main stands.triangular) stands.free)
+  reduced_from_t more stands = ((λ x is. subst (λ y. degree_in y a < degree_in y t) (same_Some v x (sym stands.main ∙ is)) less_than_t), reduced_behind (suc v) more (omega arith) stands.main (main_variables_behind 0 v chain more t stands.main stands.triangular) stands.free)
 
 -- the laws
 pub cofactor_lead_is_zero_by_leads : CofactorLeadIsZeroByLeads

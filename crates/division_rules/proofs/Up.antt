@@ -1,5 +1,6 @@
 -- Canonical lists of terms are those of canonical polynomials, and so are rows of them.
 use Rattle.std.proofs.Common.{◌≡◌, ℕ, ◌<◌, List, [], ◌∷◌, Option, Some, None, option_map, refl, ap, ap₂, subst}
+use Rattle.std.proofs.lemmas.Option.{same_Some}
 use Rattle.polynomials.specs.Polynomials.{Polynomial, IsPolynomial, ArePolynomials}
 use Rattle.polynomials.proofs.PolynomialRing.{CanonicalPolynomial}
 use Rattle.division_rules.specs.Rows.{Row, plains}
@@ -8,10 +9,6 @@ use Rattle.division_rules.specs.Chains.{IfRow}
 use Rattle.division_rules.specs.PolynomialRows.{IsPolynomialRow, ArePolynomialRows, AreRemainderRows}
 use Rattle.division_rules.proofs.Down.{terms, terms_all, down, down_all}
 use Rattle.division_rules.proofs.DownRows.{down_rows}
-
--- what is there is the same
-some_same : {X : Type 0} (x y : X) → Some x ≡ Some y → x ≡ y
-some_same x y e = cc
 
 module _ (p n : ℕ) (many : 1 < p) where
   -- canonical lists of terms as canonical polynomials
@@ -72,19 +69,19 @@ module _ (p n : ℕ) (many : 1 < p) where
   -- and what is there of an option
   pub if_canonical : (x : Option (CanonicalPolynomial p n)) (f : Polynomial) → option_map (terms p n many) x ≡ Some f → IsPolynomial p n f
   if_canonical None f e = cc
-  if_canonical (Some g) f e = subst (IsPolynomial p n) (some_same g.0 f e) g.1
+  if_canonical (Some g) f e = subst (IsPolynomial p n) (same_Some g.0 f e) g.1
 
   -- a list
   pub if_all_canonical : (xs : Option (List (CanonicalPolynomial p n))) (fs : List Polynomial) → option_map (terms_all p n many) xs ≡ Some fs → ArePolynomials p n fs
   if_all_canonical None fs e = cc
-  if_all_canonical (Some gs) fs e = subst (ArePolynomials p n) (some_same (terms_all p n many gs) fs e) (terms_canonical gs)
+  if_all_canonical (Some gs) fs e = subst (ArePolynomials p n) (same_Some (terms_all p n many gs) fs e) (terms_canonical gs)
 
   -- a row
   pub if_row_canonical : (x : Option (Row (CanonicalPolynomial p n))) (f : Row Polynomial) → option_map (down p n many) x ≡ Some f → IsPolynomialRow p n f
   if_row_canonical None f e = cc
-  if_row_canonical (Some g) f e = subst (IsPolynomialRow p n) (some_same (down p n many g) f e) (down_canonical g)
+  if_row_canonical (Some g) f e = subst (IsPolynomialRow p n) (same_Some (down p n many g) f e) (down_canonical g)
 
   -- remainder rows
   pub if_rows_canonical : (x : Option (Rows (CanonicalPolynomial p n))) (rows : Rows Polynomial) → option_map (down_rows p n many) x ≡ Some rows → AreRemainderRows p n rows
   if_rows_canonical None rows e = cc
-  if_rows_canonical (Some g) rows e = subst (AreRemainderRows p n) (some_same (down_rows p n many g) rows e) (down_rows_canonical g)
+  if_rows_canonical (Some g) rows e = subst (AreRemainderRows p n) (same_Some (down_rows p n many g) rows e) (down_rows_canonical g)

@@ -1,11 +1,11 @@
 -- The definitions, tried by computation modulo 5 on polynomials in a < b < x.
 use Rattle.std.proofs.Common.{◌≡◌, ℕ, ◌<◌, [], ◌∷◌, Some, Contains, refl, subst, arith}
 use Rattle.std.proofs.lemmas.List.Elements.{All-nil, All-cons}
+use Rattle.std.proofs.lemmas.Option.{same_Some}
 use Rattle.polynomials.specs.Polynomials.{Polynomial, term, scaled}
 use Rattle.polynomials.specs.Views.{degree_in}
 use Rattle.zero_sets.proofs.PrimeFields.{residue_tables}
 use Rattle.division_rules.specs.Rows.{Row, plain}
-use Rattle.division_rules.proofs.Identity.{some_same}
 use Rattle.row_laws.specs.Words.{first_entries, reduction_of, StartRemainderRows}
 use Rattle.row_laws.specs.Combinations.{IsRowOver}
 use Rattle.row_laws.specs.Values.{IsMultipleByInitials}
@@ -71,7 +71,7 @@ start = record {
 }
   where
     less : (v : ℕ) → Some 1 ≡ Some v → degree_in v line < degree_in v hyperbola
-    less v is = subst (λ u. degree_in u line < degree_in u hyperbola) (some_same 1 v is) (omega arith)
+    less v is = subst (λ u. degree_in u line < degree_in u hyperbola) (same_Some 1 v is) (omega arith)
 
 -- b x over b and x, with the cofactors x and 0
 abbrev product_row : Row Polynomial

@@ -1,6 +1,7 @@
 -- Members of triangular sets, and those below them.
 use Rattle.std.proofs.Common.{◌≡◌, ◌≢◌, ℕ, suc, ◌<◌, ◌≤◌, Bool, true, false, List, [], ◌∷◌, ◌++◌, map, Some, refl, sym, ap, ◌∙◌, subst, arith}
 use Rattle.std.proofs.lemmas.Bool.{eqb-true, lt-ltb, le-ltb}
+use Rattle.std.proofs.lemmas.Option.{same_Some}
 use Rattle.polynomials.specs.Polynomials.{Polynomial}
 use Rattle.polynomials.specs.Views.{main_var, lead_in_main, initial_of}
 use Rattle.zero_sets.specs.Domains.{Tables, value_at}
@@ -8,7 +9,6 @@ use Rattle.zero_sets.specs.ZeroSets.{InZeroSet, AreNonZero, IsTriangularFrom, is
 use Rattle.zero_sets.proofs.CertificateLemmas.{InZeroSet-members_below}
 use Rattle.division_rules.specs.Rows.{plain}
 use Rattle.division_rules.specs.Triangular.{HasLessDegree}
-use Rattle.division_rules.proofs.Identity.{some_same}
 use Rattle.row_laws.specs.Words.{AreBelow, IsReducedBy}
 use Rattle.row_laws.specs.Members.{IsMember, MembersArePlaced, MembersStartRemainderRows, PointsAtMembers}
 
@@ -38,9 +38,9 @@ placed v u (s ∷ chain) t (m, main, up_to, later) there = go (is_variable v (ma
   where
     go : (b : Bool) → is_variable v (main_var s) ≡ b → elim b [ true ↦ Some s | false ↦ member_in v chain ] ≡ Some t → (member_in v chain ≡ Some t → IsMember v chain t) → IsMember v (s ∷ chain) t
     go true e found further = record {
-      main = ap main_var (sym (some_same s t found)) ∙ main ∙ ap Some same;
+      main = ap main_var (sym (same_Some s t found)) ∙ main ∙ ap Some same;
       more = chain;
-      parts = ap (λ x. x ∷ chain) (some_same s t found) ∙ ap (λ xs. xs ++ t ∷ chain) (sym (ap (λ b. elim b [ true ↦ s ∷ members_below v chain | false ↦ members_below v chain ]) (ap (is_variable_below v) main ∙ le-ltb m v (omega (arith, same))) ∙ none_below v (suc m) chain (omega (arith, same)) later));
+      parts = ap (λ x. x ∷ chain) (same_Some s t found) ∙ ap (λ xs. xs ++ t ∷ chain) (sym (ap (λ b. elim b [ true ↦ s ∷ members_below v chain | false ↦ members_below v chain ]) (ap (is_variable_below v) main ∙ le-ltb m v (omega (arith, same))) ∙ none_below v (suc m) chain (omega (arith, same)) later));
     }
       where
         same : m ≡ v
@@ -91,7 +91,7 @@ module _ (v : ℕ) where
   member_reduces c (s ∷ chain) t h there = go (is_variable v (main_var s)) there (member_reduces c chain t h.1)
     where
       go : (b : Bool) → elim b [ true ↦ Some s | false ↦ member_in v chain ] ≡ Some t → (member_in v chain ≡ Some t → HasLessDegree c (plain t)) → HasLessDegree c (plain t)
-      go true found further = subst (λ x. HasLessDegree c (plain x)) (some_same s t found) h.0
+      go true found further = subst (λ x. HasLessDegree c (plain x)) (same_Some s t found) h.0
       go false found further = further found
 
   module _ (r : Tables) (xs : List ℕ) where
@@ -110,7 +110,7 @@ module _ (v : ℕ) where
     member_at (s ∷ chain) t zeros others there = go (is_variable v (main_var s)) there (member_at chain t zeros.1 others.1)
       where
         go : (b : Bool) → elim b [ true ↦ Some s | false ↦ member_in v chain ] ≡ Some t → (member_in v chain ≡ Some t → (value_at r xs t ≡ r.nil) × (value_at r xs (initial_of t) ≢ r.nil)) → (value_at r xs t ≡ r.nil) × (value_at r xs (initial_of t) ≢ r.nil)
-        go true found further = subst (λ x. (value_at r xs x ≡ r.nil) × (value_at r xs (initial_of x) ≢ r.nil)) (some_same s t found) (zeros.0, others.0)
+        go true found further = subst (λ x. (value_at r xs x ≡ r.nil) × (value_at r xs (initial_of x) ≢ r.nil)) (same_Some s t found) (zeros.0, others.0)
         go false found further = further found
 
 -- the laws

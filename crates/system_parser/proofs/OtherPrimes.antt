@@ -3,6 +3,7 @@ use Rattle.std.proofs.Common.{◌≡◌, ℕ, suc, Bool, true, false, cond, eqb,
 use Rattle.std.specs.List.{Contains}
 use Rattle.std.specs.Str.Parse.{digits_value}
 use Rattle.std.proofs.lemmas.Bool.{eqb-true}
+use Rattle.std.proofs.lemmas.Option.{same_Some}
 use Rattle.polynomials.specs.Primes.{field_primes}
 use Rattle.system_text.specs.Tokens.{Placed, Number}
 use Rattle.system_text.specs.Faults.{Fault, fault}
@@ -34,11 +35,8 @@ other_prime t digits ts p read other = by_length (ltb most_digits (length digits
     last_test : (b : Bool) → b ≡ false → cond {A = Result ℕ Fault} b (at_end 2 (digits_value 10 digits) ts) (Err (fault 3 t.first)) ≡ Err (fault 3 t.first)
     last_test b e = ap (λ c. cond {A = Result ℕ Fault} c (at_end 2 (digits_value 10 digits) ts) (Err (fault 3 t.first))) e
 
-    same_number : (a b : ℕ) → Some a ≡ Some b → a ≡ b
-    same_number a b e = cc
-
     by_length : (b : Bool) → ltb most_digits (length digits) ≡ b → Some p ≡ cond b None (Some (digits_value 10 digits)) → prime_number t (Number digits) ts ≡ Err (fault 3 t.first)
     by_length true e is = cc
     by_length false e is =
         ap (λ c. cond c (Err (fault 9 t.first)) (cond (is_one_of field_primes (digits_value 10 digits)) (at_end 2 (digits_value 10 digits) ts) (Err (fault 3 t.first)))) e
-        ∙ last_test (is_one_of field_primes (digits_value 10 digits)) (ap (is_one_of field_primes) (sym (same_number p (digits_value 10 digits) is)) ∙ not_found field_primes p other)
+        ∙ last_test (is_one_of field_primes (digits_value 10 digits)) (ap (is_one_of field_primes) (sym (same_Some p (digits_value 10 digits) is)) ∙ not_found field_primes p other)
