@@ -8,11 +8,6 @@ use Rattle.division_rules.specs.Quotients.{without_factor, factor_bound, without
 use Rattle.division_rules.proofs.Quotients.{quotient_within_of_zero}
 use Rattle.poly_quotient.proofs.Removals.{varies_nonzero}
 
--- what isn't true is false
-pub not_true : (x : Bool) → (x ≡ true → ⊥) → x ≡ false
-not_true true h = absurd (h refl)
-not_true false h = refl
-
 -- from a place on its item comes first
 drop_got : {X : Type 0} (xs : List X) (i : ℕ) (x : X) → slice_get xs i ≡ Some x → drop i xs ≡ x ∷ drop (i + 1) xs
 drop_got [] i x e = cc
