@@ -7,6 +7,7 @@ use Rattle.polynomials.specs.Views.{degree_in, main_var, IsFreeOf}
 use Rattle.polynomials.proofs.ExponentsBelow.{ExponentsBelow-one}
 use Rattle.polynomials.proofs.MainVariables.{degree_in_main_var, free_above_main_var}
 use Rattle.polynomials.proofs.PolynomialRing.{CanonicalPolynomial, canonical_path}
+use Rattle.polynomials.proofs.PolynomialLists.{ArePolynomials-append}
 use Rattle.zero_sets.specs.ZeroSets.{IsTriangularFrom}
 use Rattle.zero_sets.specs.Certificates.{LacksVariable, IsFreeOfMain}
 use Rattle.division_rules.specs.Chains.{EachRow, IfRow}
@@ -35,11 +36,6 @@ use Rattle.cofactor_laws.proofs.CofactorRows.{last_cofactor_has_degree}
 use Rattle.cofactor_laws.proofs.DownSteps.{terms-first_cofactor}
 use Rattle.cofactor_laws.proofs.GeneratorLists.{canonical_chain, plain_rows_are, up-plains, second, first, chain_units, down-second, down-first, down-chain_units}
 use Rattle.cofactor_laws.proofs.LeadPoints.{zero_row_above, lead_shows_lead, reduction_shows_lead}
-
--- lists that follow one another are canonical
-ArePolynomials-append : (p n : ℕ) (fs gs : List Polynomial) → ArePolynomials p n fs → ArePolynomials p n gs → ArePolynomials p n (fs ++ gs)
-ArePolynomials-append p n [] gs f g = g
-ArePolynomials-append p n (x ∷ fs) gs f g = (f.0, ArePolynomials-append p n fs gs f.1 g)
 
 -- the row before the zero row has v
 last_occurs : (p n v : ℕ) (g : Row Polynomial) (later : List (Row Polynomial)) (z : Row Polynomial) → DegreesFall (list_operations p n) v g later (Some z) → 1 ≤ degree_in v (last_row g later).first

@@ -1,21 +1,13 @@
 -- Division by the members of a list in turn.
-use Rattle.std.proofs.Common.{◌≡◌, ◌≢◌, ℕ, zero, suc, ◌+◌, ◌≤◌, Bool, true, false, List, [], ◌∷◌, length, drop, Some, None, refl, sym, ap, ◌∙◌, subst}
+use Rattle.std.proofs.Common.{◌≡◌, ◌≢◌, ℕ, zero, suc, ◌+◌, ◌≤◌, Bool, true, false, List, [], ◌∷◌, length, drop, Some, None, refl, sym, ap, ◌∙◌}
 use Rattle.std.specs.Prelude.{slice_get}
 use Rattle.std.proofs.Math.ListN.{drop_of_length-le}
-use Rattle.polynomials.specs.Polynomials.{Polynomial, IsPolynomial, ArePolynomials}
+use Rattle.polynomials.specs.Polynomials.{Polynomial}
 use Rattle.polynomials.specs.Views.{is_constant}
 use Rattle.item_lists.proofs.Places.{drop_at}
 use Rattle.division_rules.specs.Quotients.{without_factor, factor_bound, without_factors}
 use Rattle.division_rules.proofs.Quotients.{quotient_within_of_zero}
 use Rattle.poly_quotient.proofs.Removals.{varies_nonzero}
-
--- the item of a list of canonical polynomials is one
-pub IsPolynomial-got : (p n : ℕ) (bs : List Polynomial) (i : ℕ) (b : Polynomial) → ArePolynomials p n bs → slice_get bs i ≡ Some b → IsPolynomial p n b
-IsPolynomial-got p n [] i b are e = cc
-IsPolynomial-got p n (c ∷ bs) zero b are e =
-    let same : c ≡ b = cc in
-    subst (IsPolynomial p n) same are.0
-IsPolynomial-got p n (c ∷ bs) (suc i) b are e = IsPolynomial-got p n bs i b are.1 e
 
 module _ (p w : ℕ) where
   -- 0 stays

@@ -1,7 +1,7 @@
 -- A remainder that isn't 0 is the first.
 use Rattle.std.proofs.Common.{◌+◌, true, false, drop, Some, None, sym, ◌∙◌}
+use Rattle.polynomials.proofs.PolynomialLists.{IsPolynomial-at}
 use Rattle.mono_words.specs.declared.mono.TheConstants.{VARS}
-use Rattle.pseudo_division.proofs.Lists.{IsPolynomial-at}
 use Rattle.case_rules.specs.Finish.{first_remainder}
 use Rattle.chains.proofs.Takings.{looks_on}
 use Rattle.case_tree.proofs.Remainders.{triangular_rows, is_zero_by, first_too_wide, first_by_test}

@@ -1,7 +1,7 @@
 -- Each remainder is 0 or another, or a product doesn't fit.
 use Rattle.std.proofs.Common.{◌+◌, true, false, drop, Some, None, sym, ◌∙◌}
+use Rattle.polynomials.proofs.PolynomialLists.{IsPolynomial-at}
 use Rattle.mono_words.specs.declared.mono.TheConstants.{VARS}
-use Rattle.pseudo_division.proofs.Lists.{IsPolynomial-at}
 use Rattle.case_rules.specs.Finish.{has_zero_remainder}
 use Rattle.chains.proofs.Takings.{looks_on}
 use Rattle.case_tree.proofs.Remainders.{triangular_rows, is_zero_by, zero_too_wide, zero_by_test}
