@@ -15,6 +15,11 @@ exponent_of-greater v (d ∷ l) [] = omega arith
 exponent_of-greater zero (d ∷ l) (e ∷ m) = refl
 exponent_of-greater (suc v) (d ∷ l) (e ∷ m) = exponent_of-greater v l m
 
+-- those of a monomial and of none are its own
+pub greater_exponents-nil : (m : Monomial) → greater_exponents m [] ≡ m
+greater_exponents-nil [] = refl
+greater_exponents-nil (d ∷ m) = refl
+
 -- the list of degrees has the degree in each variable
 pub exponent_of-degrees : (v : ℕ) (f : Polynomial) → exponent_of v (degrees f) ≡ degree_in v f
 exponent_of-degrees v [] = refl
