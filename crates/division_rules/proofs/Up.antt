@@ -1,5 +1,5 @@
 -- Canonical lists of terms are those of canonical polynomials, and so are rows of them.
-use Rattle.std.proofs.Common.{◌≡◌, ℕ, ◌<◌, List, [], ◌∷◌, Option, Some, None, option_map, refl, ap, ap₂, subst}
+use Rattle.std.proofs.Common.{◌≡◌, ℕ, ◌<◌, List, [], ◌∷◌, Option, Some, None, option_map, refl, ap, ap₂, subst, suc, length}
 use Rattle.std.proofs.lemmas.Option.{same_Some}
 use Rattle.polynomials.specs.Polynomials.{Polynomial, IsPolynomial, ArePolynomials}
 use Rattle.polynomials.proofs.PolynomialRing.{CanonicalPolynomial}
@@ -29,6 +29,11 @@ module _ (p n : ℕ) (many : 1 < p) where
   pub terms-up_all : (fs : List Polynomial) (are : ArePolynomials p n fs) → terms_all p n many (up_all fs are) ≡ fs
   terms-up_all [] are = refl
   terms-up_all (f ∷ fs) are = ap (λ x. f ∷ x) (terms-up_all fs are.1)
+
+  -- as many as there are lists
+  pub length-up_all : (fs : List Polynomial) (are : ArePolynomials p n fs) → length (up_all fs are) ≡ length fs
+  length-up_all [] are = refl
+  length-up_all (f ∷ fs) are = ap suc (length-up_all fs are.1)
 
   -- so is a row
   pub down-up : (f : Row Polynomial) (i : IsPolynomialRow p n f) → down p n many (up f i) ≡ f
