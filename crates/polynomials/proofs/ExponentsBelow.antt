@@ -43,6 +43,13 @@ module _ (v : ℕ) where
   pub degree_in-from_ExponentsBelow : (d : ℕ) (f : Polynomial) → ExponentsBelow v (suc d) f → degree_in v f ≤ d
   degree_in-from_ExponentsBelow d f h = degree_in-from_bound v d f (EachMonomial-implied (λ m. exponent_of v m < suc d) (λ m. exponent_of v m ≤ d) (λ m i. omega arith) f h)
 
+  -- from a bound that isn't 0, the degree is less
+  pub degree_in-less : (d : ℕ) (f : Polynomial) → 0 < d → ExponentsBelow v d f → degree_in v f < d
+  degree_in-less zero f some h = absurd (omega arith)
+  degree_in-less (suc d) f some h =
+      let bound = degree_in-from_ExponentsBelow d f h in
+      omega arith
+
   -- without v, each is less than 1
   pub ExponentsBelow-one : (f : Polynomial) → ExponentsBelow v 1 f ↔ IsFreeOf v f
   ExponentsBelow-one f = (
