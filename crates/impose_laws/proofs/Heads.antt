@@ -6,6 +6,7 @@ use Rattle.polynomials.specs.Polynomials.{Polynomial, IsPolynomial, ArePolynomia
 use Rattle.polynomials.specs.Views.{main_var, IsFreeOf}
 use Rattle.polynomials.proofs.MainVariables.{degree_in_main_var}
 use Rattle.zero_sets.specs.ZeroSets.{IsTriangularFrom, IsTriangular, member_in, members_below}
+use Rattle.zero_sets.proofs.TriangularSets.{below_triangular}
 use Rattle.division_rules.specs.Rows.{Row, plain, plains, reduction}
 use Rattle.division_rules.specs.Within.{reduction_within}
 use Rattle.division_rules.specs.Lists.{list_operations}
@@ -22,7 +23,7 @@ use Rattle.impose_laws.proofs.Options.{then_some}
 use Rattle.impose_laws.proofs.RowStarts.{IsStart}
 use Rattle.impose_laws.proofs.RowShapes.{reduction_without}
 use Rattle.impose_laws.proofs.Stripped.{IsPolynomial-stripped, degree_in-stripped, stripped_free}
-use Rattle.impose_rules.proofs.ChainParts.{each_canonical, canonical_each, member_of_chain, each_below, below_are_below, below_triangular, triangular_plains}
+use Rattle.impose_rules.proofs.ChainParts.{each_canonical, canonical_each, member_of_chain, each_below, below_are_below, triangular_plains}
 
 -- a canonical polynomial that is reduced by the chain
 pub record IsHead (p n : ℕ) (chain : List Polynomial) (r : Polynomial) : Type 0 where

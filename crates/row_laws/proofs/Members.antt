@@ -7,15 +7,11 @@ use Rattle.polynomials.specs.Views.{main_var, lead_in_main, initial_of}
 use Rattle.zero_sets.specs.Domains.{Tables, value_at}
 use Rattle.zero_sets.specs.ZeroSets.{InZeroSet, AreNonZero, IsTriangularFrom, is_variable, member_in, is_variable_below, members_below}
 use Rattle.zero_sets.proofs.CertificateLemmas.{InZeroSet-members_below}
+use Rattle.zero_sets.proofs.TriangularSets.{below_triangular}
 use Rattle.division_rules.specs.Rows.{plain}
 use Rattle.division_rules.specs.Triangular.{HasLessDegree}
 use Rattle.row_laws.specs.Words.{AreBelow, IsReducedBy}
 use Rattle.row_laws.specs.Members.{IsMember, MembersArePlaced, MembersStartRemainderRows, PointsAtMembers}
-
--- main variables from a greater one on are such from a lesser one on
-pub triangular_from_less : (u v : ℕ) (chain : List Polynomial) → u ≤ v → IsTriangularFrom v chain → IsTriangularFrom u chain
-triangular_from_less u v [] less h = tt
-triangular_from_less u v (t ∷ chain) less (m, main, up_to, later) = (m, main, omega (arith, less, up_to), later)
 
 -- none of them is below v
 none_below : (v u : ℕ) (chain : List Polynomial) → v ≤ u → IsTriangularFrom u chain → members_below v chain ≡ []
@@ -67,15 +63,6 @@ module _ (v : ℕ) where
       go true e later = (e, later)
       go false e later = later
 
-  -- and triangular
-  pub members_triangular : (u : ℕ) (chain : List Polynomial) → IsTriangularFrom u chain → IsTriangularFrom u (members_below v chain)
-  members_triangular u [] h = tt
-  members_triangular u (t ∷ chain) (m, main, up_to, later) = go (is_variable_below v (main_var t)) (members_triangular (suc m) chain later)
-    where
-      go : (b : Bool) → IsTriangularFrom (suc m) (members_below v chain) → IsTriangularFrom u (elim b [ true ↦ t ∷ members_below v chain | false ↦ members_below v chain ])
-      go true rest = (m, main, up_to, rest)
-      go false rest = triangular_from_less u (suc m) (members_below v chain) (omega (arith, up_to)) rest
-
   -- what is reduced by all is reduced by those below v
   pub members_reduce : (c : Polynomial) (chain : List Polynomial) → IsReducedBy c chain → IsReducedBy c (members_below v chain)
   members_reduce c [] h = tt
@@ -119,7 +106,7 @@ members_are_placed v chain t triangular there = placed v 0 chain t triangular th
 
 pub members_start_remainder_rows : MembersStartRemainderRows
 members_start_remainder_rows v chain t c triangular there reduced occurs = record {
-  triangular = members_triangular v 0 chain triangular;
+  triangular = below_triangular 0 v chain triangular;
   below = members_are_below v chain;
   reduced = members_reduce v c chain reduced;
   occurs = occurs;
