@@ -39,7 +39,7 @@ module _ (p n k w : ℕ) (prime : IsPrime p) where
   remainder_lawful chain lawful f of_f r made =
       let are = canonical_lawful p n k chain lawful.lawful in
       subst (IsLawfulPolynomial p n k) (sym (remainder_is p n w chain f r made)) (record {
-        canonical = (IsPolynomialRow-reduction p n prime.many (plains chain) (plain f) (plains_canonical p n prime.many chain are) (of_f.canonical, tt)).0;
+        canonical = (IsPolynomialRow-reduction p n prime.many (plains chain) (plain f) (plains_canonical p n chain are) (of_f.canonical, tt)).0;
         named = λ v past.
             let falls = reductions_keep_degrees p n v chain f prime are of_f.canonical lawful.triangular (chain_free v past chain lawful.lawful) in
             let none = of_f.named v past in

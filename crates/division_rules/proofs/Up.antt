@@ -10,6 +10,11 @@ use Rattle.division_rules.specs.PolynomialRows.{IsPolynomialRow, ArePolynomialRo
 use Rattle.division_rules.proofs.Down.{terms, terms_all, down, down_all}
 use Rattle.division_rules.proofs.DownRows.{down_rows}
 
+-- canonical lists of terms as rows without cofactors
+pub plains_canonical : (p n : ℕ) (fs : List Polynomial) → ArePolynomials p n fs → ArePolynomialRows p n (plains fs)
+plains_canonical p n [] are = tt
+plains_canonical p n (f ∷ fs) are = ((are.0, tt), plains_canonical p n fs are.1)
+
 module _ (p n : ℕ) (many : 1 < p) where
   -- canonical lists of terms as canonical polynomials
   abbrev pub up_all : (fs : List Polynomial) → ArePolynomials p n fs → List (CanonicalPolynomial p n)
@@ -57,11 +62,6 @@ module _ (p n : ℕ) (many : 1 < p) where
   pub down_all_canonical : (fs : List (Row (CanonicalPolynomial p n))) → ArePolynomialRows p n (down_all p n many fs)
   down_all_canonical [] = tt
   down_all_canonical (f ∷ fs) = (down_canonical f, down_all_canonical fs)
-
-  -- canonical lists of terms as rows without cofactors
-  pub plains_canonical : (fs : List Polynomial) → ArePolynomials p n fs → ArePolynomialRows p n (plains fs)
-  plains_canonical [] are = tt
-  plains_canonical (f ∷ fs) are = ((are.0, tt), plains_canonical fs are.1)
 
   -- remainder rows of canonical polynomials are canonical
   pub down_rows_canonical : (rows : Rows (CanonicalPolynomial p n)) → AreRemainderRows p n (down_rows p n many rows)

@@ -99,4 +99,4 @@ pub divisions_keep_degrees : DivisionsKeepDegrees
 divisions_keep_degrees p n v x f g prime i j other free = keep_degrees p n prime v f g i j x other free
 
 pub reductions_keep_degrees : ReductionsKeepDegrees
-reductions_keep_degrees p n x chain f prime are i triangular free = subst (λ g. degree_in x g ≤ degree_in x f) (reduction_is p n prime chain are f i) (degree_in-from_ExponentsBelow x (degree_in x f) _ (reduction-other (polynomial_setting p n prime) x (suc (degree_in x f)) (chain_rows p n prime chain are) (free_apart p n prime x 0 (plains chain) (plains_canonical p n prime.many chain are) (subst (IsTriangularFrom 0) (sym (first_entries-plains chain)) triangular) (subst (AreFreeOf x) (sym (first_entries-plains chain)) free)) (free_rows p n prime x (plains chain) (plains_canonical p n prime.many chain are) (subst (AreFreeOf x) (sym (first_entries-plains chain)) free)) (up p n prime.many (plain f) (i, tt)) ((polynomial_setting p n prime).laws.degree-under x (f, i))))
+reductions_keep_degrees p n x chain f prime are i triangular free = subst (λ g. degree_in x g ≤ degree_in x f) (reduction_is p n prime chain are f i) (degree_in-from_ExponentsBelow x (degree_in x f) _ (reduction-other (polynomial_setting p n prime) x (suc (degree_in x f)) (chain_rows p n prime chain are) (free_apart p n prime x 0 (plains chain) (plains_canonical p n chain are) (subst (IsTriangularFrom 0) (sym (first_entries-plains chain)) triangular) (subst (AreFreeOf x) (sym (first_entries-plains chain)) free)) (free_rows p n prime x (plains chain) (plains_canonical p n chain are) (subst (AreFreeOf x) (sym (first_entries-plains chain)) free)) (up p n prime.many (plain f) (i, tt)) ((polynomial_setting p n prime).laws.degree-under x (f, i))))

@@ -72,7 +72,7 @@ monic_chains_reduce_alike p n chain f prime are i = (λ e. sym (reduction_is p n
     monics = monics_canonical p n prime chain are
 
     multiple : IsMultipleOf (polynomial_setting p n prime) (reduction (canonical_operations p n prime.many) (chain_rows p n prime (map (monic p) chain) monics) (up p n prime.many (plain f) (i, tt))) (reduction (canonical_operations p n prime.many) (chain_rows p n prime chain are) (up p n prime.many (plain f) (i, tt)))
-    multiple = reduction-divisors (polynomial_setting p n prime) (chain_rows p n prime (map (monic p) chain) monics) (chain_rows p n prime chain are) (monic_multiples p n prime chain (plains_canonical p n prime.many chain are) (plains_canonical p n prime.many (map (monic p) chain) monics)) (up p n prime.many (plain f) (i, tt))
+    multiple = reduction-divisors (polynomial_setting p n prime) (chain_rows p n prime (map (monic p) chain) monics) (chain_rows p n prime chain are) (monic_multiples p n prime chain (plains_canonical p n chain are) (plains_canonical p n (map (monic p) chain) monics)) (up p n prime.many (plain f) (i, tt))
 
     first_is : canonical_reduction p n prime (map (monic p) chain) monics f i ≡ P.ring.◌⊗◌ multiple.0 (canonical_reduction p n prime chain are f i)
     first_is = ap (λ (h : Row (CanonicalPolynomial p n)). h.first) multiple.2

@@ -7,9 +7,10 @@ use Rattle.polynomials.proofs.PolynomialLists.{IsPolynomial-at}
 use Rattle.division_rules.specs.Lists.{variable_or_zero}
 use Rattle.division_rules.specs.Rows.{plain, plains}
 use Rattle.division_rules.specs.Within.{sparse_remainder_within}
+use Rattle.division_rules.proofs.Up.{plains_canonical}
 use Rattle.pseudo_division.specs.FieldOperations.{operations}
 use Rattle.pseudo_division.proofs.ChainTurns.{occurs_at, variable_at, reduction_within-turn, reduction_within-none}
-use Rattle.pseudo_division.proofs.PlainRows.{plains_canonical, plains-at}
+use Rattle.pseudo_division.proofs.PlainRows.{plains-at}
 use Rattle.pseudo_division.proofs.plain.reduced_further.Goals as goal
 
 pub sparse_remainder-requires-clause-right : goal.sparse_remainder-requires-clause-right
