@@ -8,6 +8,7 @@ use Rattle.polynomials.proofs.ExponentsBelow.{ExponentsBelow-one}
 use Rattle.polynomials.proofs.MainVariables.{degree_in_main_var, free_above_main_var}
 use Rattle.polynomials.proofs.PolynomialRing.{CanonicalPolynomial, canonical_path}
 use Rattle.polynomials.proofs.PolynomialLists.{ArePolynomials-append}
+use Rattle.polynomials.proofs.Powers.{one_is_free}
 use Rattle.zero_sets.specs.ZeroSets.{IsTriangularFrom}
 use Rattle.zero_sets.specs.Certificates.{LacksVariable, IsFreeOfMain}
 use Rattle.division_rules.specs.Chains.{EachRow, IfRow}
@@ -19,9 +20,7 @@ use Rattle.division_rules.specs.Turns.{DegreesFall, last_row}
 use Rattle.division_rules.specs.Units.{unit_rows}
 use Rattle.division_rules.specs.Cofactors.{first_cofactor}
 use Rattle.division_rules.proofs.CanonicalViews.{canonical_operations}
-use Rattle.division_rules.proofs.FreeNonzero.{one_free_nonzero}
 use Rattle.division_rules.proofs.ListLaws.{free_above_main}
-use Rattle.division_rules.proofs.PolynomialSetting.{polynomial_setting}
 use Rattle.division_rules.proofs.Up.{down_canonical, down_all_canonical}
 use Rattle.row_laws.specs.Words.{first_entries, reduction_of, AreBelow, IsReducedBy, StartRemainderRows}
 use Rattle.row_laws.specs.Degrees.{AreFreeOf, IsRowFreeOf}
@@ -64,15 +63,12 @@ cofactor_free p n x z free = go z.cofactors free.1
 
 module _ (p n : ℕ) (prime : IsPrime p) where
   -- 0 and 1 have no variable
-  one_free : (x : ℕ) → IsFreeOf x (one_of n)
-  one_free x = (ExponentsBelow-one x (one_of n)).0 (one_free_nonzero (polynomial_setting p n prime) x).1
-
   zeros_free : (x k : ℕ) → AreFreeOf x (replicate k [])
   zeros_free x zero = tt
   zeros_free x (suc k) = (refl, zeros_free x k)
 
   unit_free : (x before behind : ℕ) → AreFreeOf x (replicate before [] ++ one_of n ∷ replicate behind [])
-  unit_free x zero behind = (one_free x, zeros_free x behind)
+  unit_free x zero behind = (one_is_free x n, zeros_free x behind)
   unit_free x (suc before) behind = (refl, unit_free x before behind)
 
   rows_free : (x before : ℕ) (fs : List Polynomial) → AreFreeOf x fs → EachRow (IsRowFreeOf x) (unit_rows (list_operations p n) before fs)

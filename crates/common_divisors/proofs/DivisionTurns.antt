@@ -1,5 +1,5 @@
 -- A turn of the division adds a multiple of the divisor.
-use Rattle.std.proofs.Common.{◌≡◌, ℕ, ◌+◌, ◌-◌, ◌*◌, ◌%◌, ◌<◌, ◌≤◌, List, [], ◌∷◌, ◌++◌, length, map, get_or, set, drop, refl, sym, ap, ap₂, ◌∙◌, subst, arith, append_assoc}
+use Rattle.std.proofs.Common.{◌≡◌, ℕ, ◌+◌, ◌-◌, ◌*◌, ◌%◌, ◌<◌, ◌≤◌, List, [], ◌∷◌, ◌++◌, length, map, get_or, set, drop, refl, sym, ap, ap₂, ◌∙◌, subst, arith, append_assoc, add_comm}
 use Rattle.std.proofs.Math.Nat.{mod-add-mod, mul-mod_right, mod-eq_of_lt}
 use Rattle.std.proofs.lemmas.List.{map-append, drop_more}
 use Rattle.std.proofs.lemmas.Nat.{mul-mod_first, mul-mod_second}
@@ -24,15 +24,12 @@ cancels : (p c y l : ℕ) → y ≤ p → y * l % p ≡ c → (c + (p - y) % p *
 cancels p c y l most e =
     ap (λ x. (x + (p - y) % p * l) % p) (sym e)
     ∙ (mod-add-mod (y * l) p ((p - y) % p * l)
-    ∙ (ap (λ x. x % p) (commuted (y * l) ((p - y) % p * l))
+    ∙ (ap (λ x. x % p) (add_comm (y * l) ((p - y) % p * l))
     ∙ (sym (mod-add-mod ((p - y) % p * l) p (y * l))
     ∙ (ap (λ x. (x + y * l) % p) (mul-mod_first (p - y) l p)
     ∙ (mod-add-mod ((p - y) * l) p (y * l)
     ∙ (ap (λ x. x % p) (whole (p - y) y l p (omega arith)) ∙ mul-mod_right p l))))))
   where
-    commuted : (a b : ℕ) → a + b ≡ b + a
-    commuted a b = omega arith
-
     whole : (d y l p : ℕ) → d + y ≡ p → d * l + y * l ≡ p * l
     whole d y l p e = grind arith
 
