@@ -1,5 +1,5 @@
 -- What follows where the zero row's first cofactor reduces to 0.
-use Rattle.std.proofs.Common.{◌≡◌, ℕ, zero, suc, ◌<◌, ◌≤◌, List, [], ◌∷◌, ◌++◌, length, replicate, get_or, Some, refl, sym, ap, ◌∙◌, subst, arith}
+use Rattle.std.proofs.Common.{◌≡◌, ℕ, zero, suc, ◌<◌, List, [], ◌∷◌, ◌++◌, length, replicate, get_or, Some, refl, sym, ap, ◌∙◌, subst, arith}
 use Rattle.std.proofs.lemmas.Option.{same_Some}
 use Rattle.polynomials.specs.Primes.{IsPrime}
 use Rattle.polynomials.specs.Polynomials.{Polynomial, IsPolynomial, ArePolynomials, one_of}
@@ -16,12 +16,13 @@ use Rattle.division_rules.specs.Lists.{list_operations}
 use Rattle.division_rules.specs.PolynomialRows.{IsPolynomialRow, ArePolynomialRows}
 use Rattle.division_rules.specs.Rows.{Row, plain, plains, reduction}
 use Rattle.division_rules.specs.Triangular.{HasLessDegree}
-use Rattle.division_rules.specs.Turns.{DegreesFall, last_row}
+use Rattle.division_rules.specs.Turns.{DegreesFall}
 use Rattle.division_rules.specs.Units.{unit_rows}
 use Rattle.division_rules.specs.Cofactors.{first_cofactor}
 use Rattle.division_rules.proofs.CanonicalViews.{canonical_operations}
 use Rattle.division_rules.proofs.ListLaws.{free_above_main}
 use Rattle.division_rules.proofs.Up.{down_canonical, down_all_canonical}
+use Rattle.division_rules.proofs.RowsShape.{last_occurs}
 use Rattle.row_laws.specs.Words.{first_entries, reduction_of, AreBelow, IsReducedBy, StartRemainderRows}
 use Rattle.row_laws.specs.Degrees.{AreFreeOf, IsRowFreeOf}
 use Rattle.row_laws.proofs.FallingRows.{remainder_rows_fall, remainder_rows_are_free}
@@ -35,11 +36,6 @@ use Rattle.cofactor_laws.proofs.CofactorRows.{last_cofactor_has_degree}
 use Rattle.cofactor_laws.proofs.DownSteps.{terms-first_cofactor}
 use Rattle.cofactor_laws.proofs.GeneratorLists.{canonical_chain, plain_rows_are, up-plains, second, first, chain_units, down-second, down-first, down-chain_units}
 use Rattle.cofactor_laws.proofs.LeadPoints.{zero_row_above, lead_shows_lead, reduction_shows_lead}
-
--- the row before the zero row has v
-last_occurs : (p n v : ℕ) (g : Row Polynomial) (later : List (Row Polynomial)) (z : Row Polynomial) → DegreesFall (list_operations p n) v g later (Some z) → 1 ≤ degree_in v (last_row g later).first
-last_occurs p n v g [] z falls = falls.0
-last_occurs p n v g (h ∷ later) z falls = last_occurs p n v h later z falls.2
 
 -- behind t main variables are greater than that of t
 pub main_variables_behind : (u v : ℕ) (chain more : List Polynomial) (t : Polynomial) → main_var t ≡ Some v → IsTriangularFrom u (chain ++ t ∷ more) → IsTriangularFrom (suc v) more
@@ -89,7 +85,7 @@ module _ (p n w v : ℕ) (c t : Polynomial) (chain : List Polynomial) (z : Row P
   less_than_t : degree_in v a < degree_in v t
   less_than_t =
       let sum = last_cofactor_has_degree p n w v c t chain z ends in
-      let occurs = last_occurs p n v (row_of_c n c chain) (rows_with_cofactors p n w v c t chain).later z (subst (DegreesFall (list_operations p n) v (row_of_c n c chain) (rows_with_cofactors p n w v c t chain).later) ends.last (remainder_rows_fall p n w v (rows_of_chain p n chain) (row_of_t n t chain) (row_of_c n c chain) ends.prime are_rows start_rows).falls) in
+      let occurs = last_occurs (list_operations p n) v (row_of_c n c chain) (rows_with_cofactors p n w v c t chain).later z (subst (DegreesFall (list_operations p n) v (row_of_c n c chain) (rows_with_cofactors p n w v c t chain).later) ends.last (remainder_rows_fall p n w v (rows_of_chain p n chain) (row_of_t n t chain) (row_of_c n c chain) ends.prime are_rows start_rows).falls) in
       omega (arith, sum, occurs)
 
   -- and lacks each greater variable that c lacks
