@@ -15,33 +15,27 @@ use Rattle.impose_rules.proofs.Lists.{each_implied}
 use Rattle.impose_laws.specs.TaskForms.{KeepsForm}
 use Rattle.impose_laws.proofs.FewChildren.{children_are_few}
 use Rattle.impose_laws.proofs.KeptForms.{children_keep_the_form}
-use Rattle.row_laws.specs.Degrees.{AreFreeOf}
 use Rattle.row_laws.proofs.DegreeLaws.{reductions_keep_degrees}
 use Rattle.case_rules.specs.Finish.{has_zero_remainder, first_remainder, step_by_remainder, step_by_nonzero}
 use Rattle.case_rules.specs.Cases.{step_by_queue}
 use Rattle.case_laws.specs.Lawful.{IsLawfulPolynomial, AreLawfulPolynomials, IsLawfulChain, IsLawfulTask}
 use Rattle.case_laws.specs.Laws.{CaseStepsKeepLaw}
 use Rattle.case_laws.proofs.FirstRemainders.{IfRemainder, first_found}
-use Rattle.case_laws.proofs.Parts.{IsSmall, AreSmall, canonical_lawful, small_lawful, lawful_parts, task_over, task_free}
+use Rattle.case_laws.proofs.Parts.{IsSmall, AreSmall, canonical_lawful, small_lawful, lawful_parts, task_over, task_free, free_lawful}
 use Rattle.case_laws.proofs.Reductions.{remainder_is}
 use Rattle.case_laws.proofs.Results.{then_follows}
 use Rattle.case_laws.proofs.SmallRows.{IsSmallRow, reduction_small}
 use Rattle.case_laws.proofs.SmallTasks.{AreSmallTasks, children_small}
 
 module _ (p n k w : ℕ) (prime : IsPrime p) where
-  -- the variables from k on don't occur
-  chain_free : (v : ℕ) → k ≤ v → (fs : List Polynomial) → AreLawfulPolynomials p n k fs → AreFreeOf v fs
-  chain_free v past [] lawful = tt
-  chain_free v past (f ∷ fs) lawful = (lawful.0.named v past, chain_free v past fs lawful.1)
-
   -- the remainder of a lawful polynomial by a lawful triangular set
   remainder_lawful : (chain : List Polynomial) → IsLawfulChain p n k chain → (f : Polynomial) → IsLawfulPolynomial p n k f → IfRemainder p n w chain (IsLawfulPolynomial p n k) f
   remainder_lawful chain lawful f of_f r made =
       let are = canonical_lawful p n k chain lawful.lawful in
       subst (IsLawfulPolynomial p n k) (sym (remainder_is p n w chain f r made)) (record {
-        canonical = (IsPolynomialRow-reduction p n prime.many (plains chain) (plain f) (plains_canonical p n prime.many chain are) (of_f.canonical, tt)).0;
+        canonical = (IsPolynomialRow-reduction p n prime.many (plains chain) (plain f) (plains_canonical p n chain are) (of_f.canonical, tt)).0;
         named = λ v past.
-            let falls = reductions_keep_degrees p n v chain f prime are of_f.canonical lawful.triangular (chain_free v past chain lawful.lawful) in
+            let falls = reductions_keep_degrees p n v chain f prime are of_f.canonical lawful.triangular (free_lawful p n k v past chain lawful.lawful) in
             let none = of_f.named v past in
             omega arith;
         small = subst IsSmall (remainder_is p n w chain f r made) (subst (λ o. IfSome o IsSmall) made (then_follows IsSmallRow IsSmall (reduction_within (list_operations p n) w (plains chain) (plain f)) (λ g. Some g.first) (reduction_small p n w (plains chain) (plain f) of_f.small) (λ g small. small)));

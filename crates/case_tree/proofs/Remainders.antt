@@ -1,21 +1,11 @@
 -- Remainders by a triangular set, one polynomial of a list after the other.
-use Rattle.std.proofs.Common.{◌≡◌, ◌↔◌, ℕ, suc, Bool, true, false, IsTrue, List, [], ◌∷◌, Option, Some, None, refl, ap, ◌∙◌}
+use Rattle.std.proofs.Common.{◌≡◌, ◌↔◌, ℕ, Bool, true, false, IsTrue, List, [], ◌∷◌, Option, Some, None, refl, ap, ◌∙◌}
 use Rattle.mono_words.specs.declared.mono.TheConstants.{VARS}
 use Rattle.polynomials.specs.Polynomials.{Polynomial, is_zero}
-use Rattle.zero_sets.specs.ZeroSets.{IsTriangularFrom, IsTriangular}
 use Rattle.division_rules.specs.Rows.{Row, plain, plains}
 use Rattle.division_rules.specs.Within.{and_then, reduction_within}
-use Rattle.division_rules.specs.Triangular.{AreTriangularFrom, AreTriangular}
 use Rattle.pseudo_division.specs.FieldOperations.{operations, first_of}
 use Rattle.case_rules.specs.Finish.{has_zero_remainder, first_remainder}
-
--- a triangular set is one of rows
-triangular_from : (v : ℕ) (chain : List Polynomial) → IsTriangularFrom v chain → AreTriangularFrom v (plains chain)
-triangular_from v [] h = tt
-triangular_from v (t ∷ chain) h = (h.0, h.1, h.2, triangular_from (suc h.0) chain h.3)
-
-pub triangular_rows : (chain : List Polynomial) → IsTriangular chain → AreTriangular (plains chain)
-triangular_rows chain h = triangular_from 0 chain h
 
 -- the test tells whether f is 0
 pub is_zero_by : (test : Bool) (f : Polynomial) → IsTrue test ↔ (f ≡ []) → is_zero f ≡ test

@@ -1,27 +1,17 @@
 -- Lists of which some items are taken, in order, and members that are looked for.
-use Rattle.std.proofs.Common.{◌≡◌, ℕ, zero, suc, ◌+◌, ◌≤◌, List, [], ◌∷◌, ◌++◌, length, drop, append_assoc, append-nil, Some, sym, ap, ◌∙◌, arith}
+use Rattle.std.proofs.Common.{◌≡◌, ℕ, ◌+◌, ◌≤◌, List, [], ◌∷◌, ◌++◌, length, drop, append_assoc, append-nil, Some, sym, ap, ◌∙◌}
 use Rattle.std.specs.Prelude.{slice_get}
 use Rattle.std.proofs.Math.ListN.{drop_of_length-le}
-
--- from a place on its item comes first
-pub drop_got : {X : Type 0} (xs : List X) (i : ℕ) (x : X) → slice_get xs i ≡ Some x → drop i xs ≡ x ∷ drop (i + 1) xs
-drop_got [] i x e = cc
-drop_got (y ∷ xs) zero x e =
-    let same : y ≡ x = cc in
-    ap (λ z. z ∷ xs) same
-drop_got (y ∷ xs) (suc i) x e = drop_got xs i x e ∙ ap (λ k. x ∷ drop k (y ∷ xs)) (later i)
-  where
-    later : (k : ℕ) → suc (k + 1) ≡ suc k + 1
-    later k = omega arith
+use Rattle.item_lists.proofs.Places.{drop_at}
 
 module _ {X : Type 0} (taken : List X → List X) (all : List X) (xs out : List X) (i : ℕ) where
   -- one more is taken
   pub takes_more : (longer : List X) (x y : X) → slice_get xs i ≡ Some x → taken (x ∷ drop (i + 1) xs) ≡ x ∷ taken (drop (i + 1) xs) → y ≡ x → longer ≡ out ++ y ∷ [] → out ++ taken (drop i xs) ≡ all → longer ++ taken (drop (i + 1) xs) ≡ all
-  takes_more longer x y at takes same is whole = ap (λ zs. zs ++ taken (drop (i + 1) xs)) (is ∙ ap (λ z. out ++ z ∷ []) same) ∙ append_assoc out (x ∷ []) (taken (drop (i + 1) xs)) ∙ ap (λ zs. out ++ zs) (sym (ap taken (drop_got xs i x at) ∙ takes)) ∙ whole
+  takes_more longer x y at takes same is whole = ap (λ zs. zs ++ taken (drop (i + 1) xs)) (is ∙ ap (λ z. out ++ z ∷ []) same) ∙ append_assoc out (x ∷ []) (taken (drop (i + 1) xs)) ∙ ap (λ zs. out ++ zs) (sym (ap taken (drop_at xs i x at) ∙ takes)) ∙ whole
 
   -- or passed over
   pub takes_none : (same_out : List X) (x : X) → slice_get xs i ≡ Some x → taken (x ∷ drop (i + 1) xs) ≡ taken (drop (i + 1) xs) → same_out ≡ out → out ++ taken (drop i xs) ≡ all → same_out ++ taken (drop (i + 1) xs) ≡ all
-  takes_none same_out x at passes is whole = ap (λ zs. zs ++ taken (drop (i + 1) xs)) is ∙ ap (λ zs. out ++ zs) (sym (ap taken (drop_got xs i x at) ∙ passes)) ∙ whole
+  takes_none same_out x at passes is whole = ap (λ zs. zs ++ taken (drop (i + 1) xs)) is ∙ ap (λ zs. out ++ zs) (sym (ap taken (drop_at xs i x at) ∙ passes)) ∙ whole
 
   -- at the end all are taken
   pub takes_all : taken [] ≡ [] → length xs ≤ i → out ++ taken (drop i xs) ≡ all → out ≡ all
@@ -30,7 +20,7 @@ module _ {X : Type 0} (taken : List X → List X) (all : List X) (xs out : List 
 module _ {X Y : Type 0} (look : List X → Y) (xs : List X) (i : ℕ) where
   -- what is looked for from a place on
   pub looks_on : (x : X) (y : Y) → slice_get xs i ≡ Some x → look (x ∷ drop (i + 1) xs) ≡ y → look (drop i xs) ≡ look xs → y ≡ look xs
-  looks_on x y at here whole = sym here ∙ sym (ap look (drop_got xs i x at)) ∙ whole
+  looks_on x y at here whole = sym here ∙ sym (ap look (drop_at xs i x at)) ∙ whole
 
   -- at the end
   pub looks_end : length xs ≤ i → look (drop i xs) ≡ look xs → look [] ≡ look xs

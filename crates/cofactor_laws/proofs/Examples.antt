@@ -1,5 +1,6 @@
 -- The steps of first cofactors, tried by computation on five sequences of remainder rows.
 use Rattle.std.proofs.Common.{◌≡◌, ◌≢◌, ℕ, zero, suc, ◌%◌, ◌<◌, List, [], ◌∷◌, ◌++◌, Any, Some, None, inl, refl, subst, arith}
+use Rattle.std.proofs.lemmas.Option.{same_Some}
 use Rattle.polynomials.specs.Polynomials.{Polynomial, term}
 use Rattle.polynomials.specs.Views.{degree_in}
 use Rattle.polynomials.specs.Primes.{IsPrime}
@@ -8,7 +9,6 @@ use Rattle.zero_sets.proofs.PrimeFields.{residue_tables}
 use Rattle.division_rules.specs.Lists.{list_operations}
 use Rattle.division_rules.specs.Rows.{Row}
 use Rattle.division_rules.specs.Cofactors.{first_cofactor, AreCofactorSteps}
-use Rattle.division_rules.proofs.Identity.{some_same}
 use Rattle.row_laws.specs.Words.{reduction_of}
 use Rattle.cofactor_laws.specs.RowsWithCofactors.{leads_from_c, row_of_c, row_of_t, rows_of_chain, rows_with_cofactors, EndWithZeroRow}
 use Rattle.cofactor_laws.specs.TriangularSets.{LacksMainAbove}
@@ -114,7 +114,7 @@ multiplied_ends = record {
   start = record {
     triangular = (1, refl, omega arith, tt);
     below = (refl, tt);
-    reduced = ((λ v is. subst (λ u. degree_in u multiplied_c < degree_in u (term (1 ∷ 1 ∷ 0 ∷ []) 1 ∷ term (0 ∷ 0 ∷ 0 ∷ []) 3 ∷ [])) (some_same 1 v is) (omega arith)), tt);
+    reduced = ((λ v is. subst (λ u. degree_in u multiplied_c < degree_in u (term (1 ∷ 1 ∷ 0 ∷ []) 1 ∷ term (0 ∷ 0 ∷ 0 ∷ []) 3 ∷ [])) (same_Some 1 v is) (omega arith)), tt);
     occurs = omega arith;
     falls = omega arith;
   };
@@ -123,7 +123,7 @@ multiplied_ends = record {
 
 -- and so it is at 4 a x^2 + 3 b in the triangular set of both
 multiplied_lacks : LacksMainAbove 2 multiplied_c (multiplied_t ∷ [])
-multiplied_lacks = ((λ u is less. absurd (no_less u (some_same 2 u is) less)), tt)
+multiplied_lacks = ((λ u is less. absurd (no_less u (same_Some 2 u is) less)), tt)
   where
     no_less : (u : ℕ) → 2 ≡ u → 2 < u → ⊥
     no_less u same less = omega (arith, same, less)

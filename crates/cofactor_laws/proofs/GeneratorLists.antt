@@ -17,9 +17,9 @@ use Rattle.division_rules.proofs.DownRows.{down_rows, down-remainder_rows}
 use Rattle.division_rules.proofs.GeneratorRows.{row_of_first, row_of_second, generator_rows_steps}
 use Rattle.division_rules.proofs.PolynomialSetting.{polynomial_setting}
 use Rattle.division_rules.proofs.Settings.{ViewedRing}
-use Rattle.division_rules.proofs.Up.{up_all, up_rows, terms-up_all}
+use Rattle.division_rules.proofs.Up.{up_all, up_rows, terms-up_all, length-up_all}
 use Rattle.row_laws.specs.Words.{first_entries, StartRemainderRows}
-use Rattle.row_laws.proofs.CombinationRows.{terms-zeros, length-up_all, down-unit_rows}
+use Rattle.row_laws.proofs.CombinationRows.{terms-zeros, down-unit_rows}
 use Rattle.row_laws.proofs.ReductionValues.{first_entries-plains}
 use Rattle.row_laws.proofs.Starts.{start_base, start_turn}
 use Rattle.cofactor_laws.specs.RowsWithCofactors.{row_of_c, row_of_t, rows_of_chain, rows_with_cofactors}
@@ -74,7 +74,7 @@ module _ (p n : ℕ) (prime : IsPrime p) where
 
     -- are those of the lists of terms
     zeros_down : terms_all p n prime.many (replicate (length canonical_chain) (canonical_operations p n prime.many).nil) ≡ replicate (length chain) []
-    zeros_down = terms-zeros p n prime (length canonical_chain) ∙ ap (λ k. replicate k []) (length-up_all p n prime chain are.1.1)
+    zeros_down = terms-zeros p n prime (length canonical_chain) ∙ ap (λ k. replicate k []) (length-up_all p n prime.many chain are.1.1)
 
     pub down-second : down p n prime.many second ≡ row_of_t n t chain
     down-second = ap (λ cs. record { first = t; cofactors = [] ∷ one_of n ∷ cs }) zeros_down

@@ -1,11 +1,14 @@
 -- What follows where the zero row's first cofactor reduces to 0.
-use Rattle.std.proofs.Common.{◌≡◌, ℕ, zero, suc, ◌<◌, ◌≤◌, List, [], ◌∷◌, ◌++◌, length, replicate, get_or, Some, refl, sym, ap, ◌∙◌, subst, arith}
+use Rattle.std.proofs.Common.{◌≡◌, ℕ, zero, suc, ◌<◌, List, [], ◌∷◌, ◌++◌, length, replicate, get_or, Some, refl, sym, ap, ◌∙◌, subst, arith}
+use Rattle.std.proofs.lemmas.Option.{same_Some}
 use Rattle.polynomials.specs.Primes.{IsPrime}
 use Rattle.polynomials.specs.Polynomials.{Polynomial, IsPolynomial, ArePolynomials, one_of}
 use Rattle.polynomials.specs.Views.{degree_in, main_var, IsFreeOf}
 use Rattle.polynomials.proofs.ExponentsBelow.{ExponentsBelow-one}
 use Rattle.polynomials.proofs.MainVariables.{degree_in_main_var, free_above_main_var}
 use Rattle.polynomials.proofs.PolynomialRing.{CanonicalPolynomial, canonical_path}
+use Rattle.polynomials.proofs.PolynomialLists.{ArePolynomials-append}
+use Rattle.polynomials.proofs.Powers.{one_is_free}
 use Rattle.zero_sets.specs.ZeroSets.{IsTriangularFrom}
 use Rattle.zero_sets.specs.Certificates.{LacksVariable, IsFreeOfMain}
 use Rattle.division_rules.specs.Chains.{EachRow, IfRow}
@@ -13,15 +16,13 @@ use Rattle.division_rules.specs.Lists.{list_operations}
 use Rattle.division_rules.specs.PolynomialRows.{IsPolynomialRow, ArePolynomialRows}
 use Rattle.division_rules.specs.Rows.{Row, plain, plains, reduction}
 use Rattle.division_rules.specs.Triangular.{HasLessDegree}
-use Rattle.division_rules.specs.Turns.{DegreesFall, last_row}
+use Rattle.division_rules.specs.Turns.{DegreesFall}
 use Rattle.division_rules.specs.Units.{unit_rows}
 use Rattle.division_rules.specs.Cofactors.{first_cofactor}
 use Rattle.division_rules.proofs.CanonicalViews.{canonical_operations}
-use Rattle.division_rules.proofs.FreeNonzero.{one_free_nonzero}
 use Rattle.division_rules.proofs.ListLaws.{free_above_main}
-use Rattle.division_rules.proofs.PolynomialSetting.{polynomial_setting}
 use Rattle.division_rules.proofs.Up.{down_canonical, down_all_canonical}
-use Rattle.division_rules.proofs.Identity.{some_same}
+use Rattle.division_rules.proofs.RowsShape.{last_occurs}
 use Rattle.row_laws.specs.Words.{first_entries, reduction_of, AreBelow, IsReducedBy, StartRemainderRows}
 use Rattle.row_laws.specs.Degrees.{AreFreeOf, IsRowFreeOf}
 use Rattle.row_laws.proofs.FallingRows.{remainder_rows_fall, remainder_rows_are_free}
@@ -36,19 +37,9 @@ use Rattle.cofactor_laws.proofs.DownSteps.{terms-first_cofactor}
 use Rattle.cofactor_laws.proofs.GeneratorLists.{canonical_chain, plain_rows_are, up-plains, second, first, chain_units, down-second, down-first, down-chain_units}
 use Rattle.cofactor_laws.proofs.LeadPoints.{zero_row_above, lead_shows_lead, reduction_shows_lead}
 
--- lists that follow one another are canonical
-ArePolynomials-append : (p n : ℕ) (fs gs : List Polynomial) → ArePolynomials p n fs → ArePolynomials p n gs → ArePolynomials p n (fs ++ gs)
-ArePolynomials-append p n [] gs f g = g
-ArePolynomials-append p n (x ∷ fs) gs f g = (f.0, ArePolynomials-append p n fs gs f.1 g)
-
--- the row before the zero row has v
-last_occurs : (p n v : ℕ) (g : Row Polynomial) (later : List (Row Polynomial)) (z : Row Polynomial) → DegreesFall (list_operations p n) v g later (Some z) → 1 ≤ degree_in v (last_row g later).first
-last_occurs p n v g [] z falls = falls.0
-last_occurs p n v g (h ∷ later) z falls = last_occurs p n v h later z falls.2
-
 -- behind t main variables are greater than that of t
 pub main_variables_behind : (u v : ℕ) (chain more : List Polynomial) (t : Polynomial) → main_var t ≡ Some v → IsTriangularFrom u (chain ++ t ∷ more) → IsTriangularFrom (suc v) more
-main_variables_behind u v [] more t main (m, is, up_to, later) = subst (λ x. IsTriangularFrom (suc x) more) (some_same m v (sym is ∙ main)) later
+main_variables_behind u v [] more t main (m, is, up_to, later) = subst (λ x. IsTriangularFrom (suc x) more) (same_Some m v (sym is ∙ main)) later
 main_variables_behind u v (s ∷ chain) more t main (m, is, up_to, later) = main_variables_behind (suc m) v chain more t main later
 
 -- no polynomial with a lesser main variable has x
@@ -68,15 +59,12 @@ cofactor_free p n x z free = go z.cofactors free.1
 
 module _ (p n : ℕ) (prime : IsPrime p) where
   -- 0 and 1 have no variable
-  one_free : (x : ℕ) → IsFreeOf x (one_of n)
-  one_free x = (ExponentsBelow-one x (one_of n)).0 (one_free_nonzero (polynomial_setting p n prime) x).1
-
   zeros_free : (x k : ℕ) → AreFreeOf x (replicate k [])
   zeros_free x zero = tt
   zeros_free x (suc k) = (refl, zeros_free x k)
 
   unit_free : (x before behind : ℕ) → AreFreeOf x (replicate before [] ++ one_of n ∷ replicate behind [])
-  unit_free x zero behind = (one_free x, zeros_free x behind)
+  unit_free x zero behind = (one_is_free x n, zeros_free x behind)
   unit_free x (suc before) behind = (refl, unit_free x before behind)
 
   rows_free : (x before : ℕ) (fs : List Polynomial) → AreFreeOf x fs → EachRow (IsRowFreeOf x) (unit_rows (list_operations p n) before fs)
@@ -97,7 +85,7 @@ module _ (p n w v : ℕ) (c t : Polynomial) (chain : List Polynomial) (z : Row P
   less_than_t : degree_in v a < degree_in v t
   less_than_t =
       let sum = last_cofactor_has_degree p n w v c t chain z ends in
-      let occurs = last_occurs p n v (row_of_c n c chain) (rows_with_cofactors p n w v c t chain).later z (subst (DegreesFall (list_operations p n) v (row_of_c n c chain) (rows_with_cofactors p n w v c t chain).later) ends.last (remainder_rows_fall p n w v (rows_of_chain p n chain) (row_of_t n t chain) (row_of_c n c chain) ends.prime are_rows start_rows).falls) in
+      let occurs = last_occurs (list_operations p n) v (row_of_c n c chain) (rows_with_cofactors p n w v c t chain).later z (subst (DegreesFall (list_operations p n) v (row_of_c n c chain) (rows_with_cofactors p n w v c t chain).later) ends.last (remainder_rows_fall p n w v (rows_of_chain p n chain) (row_of_t n t chain) (row_of_c n c chain) ends.prime are_rows start_rows).falls) in
       omega (arith, sum, occurs)
 
   -- and lacks each greater variable that c lacks
@@ -111,13 +99,13 @@ module _ (p n w v : ℕ) (c t : Polynomial) (chain : List Polynomial) (z : Row P
     where
       by_s : HasLessDegree a (plain s)
       by_s x is_x =
-          let greater : v < x = subst (λ y. v < y) (some_same m x (sym is ∙ is_x)) (omega (arith, less, up_to)) in
+          let greater : v < x = subst (λ y. v < y) (same_Some m x (sym is ∙ is_x)) (omega (arith, less, up_to)) in
           let none : degree_in x a ≡ 0 = lacks_greater x greater main (subst (λ o. LacksVariable o c) is_x free.0) in
           let some : 0 < degree_in x s = degree_in_main_var x s is_x in
           omega (arith, none, some)
 
   pub reduced_from_t : (more : List Polynomial) → StandsInTriangular p n v c t chain more → IsReducedBy a (t ∷ more)
-  reduced_from_t more stands = ((λ x is. subst (λ y. degree_in y a < degree_in y t) (some_same v x (sym stands.main ∙ is)) less_than_t), reduced_behind (suc v) more (omega arith) stands.main (main_variables_behind 0 v chain more t stands.main stands.triangular) stands.free)
+  reduced_from_t more stands = ((λ x is. subst (λ y. degree_in y a < degree_in y t) (same_Some v x (sym stands.main ∙ is)) less_than_t), reduced_behind (suc v) more (omega arith) stands.main (main_variables_behind 0 v chain more t stands.main stands.triangular) stands.free)
 
 -- the laws
 pub cofactor_lead_is_zero_by_leads : CofactorLeadIsZeroByLeads

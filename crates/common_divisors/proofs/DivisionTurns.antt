@@ -1,8 +1,7 @@
 -- A turn of the division adds a multiple of the divisor.
-use Rattle.std.proofs.Common.{◌≡◌, ℕ, suc, ◌+◌, ◌-◌, ◌*◌, ◌%◌, ◌<◌, ◌≤◌, List, [], ◌∷◌, ◌++◌, length, map, get_or, set, drop, refl, sym, ap, ap₂, ◌∙◌, subst, arith, append_assoc, add-one}
+use Rattle.std.proofs.Common.{◌≡◌, ℕ, ◌+◌, ◌-◌, ◌*◌, ◌%◌, ◌<◌, ◌≤◌, List, [], ◌∷◌, ◌++◌, length, map, get_or, set, drop, refl, sym, ap, ap₂, ◌∙◌, subst, arith, append_assoc, add_comm}
 use Rattle.std.proofs.Math.Nat.{mod-add-mod, mul-mod_right, mod-eq_of_lt}
-use Rattle.std.proofs.Math.Seq.{drop-cons}
-use Rattle.std.proofs.lemmas.List.{map-append}
+use Rattle.std.proofs.lemmas.List.{map-append, drop_more}
 use Rattle.std.proofs.lemmas.Nat.{mul-mod_first, mul-mod_second}
 use Rattle.polynomials.specs.Monomials.{Monomial, monomial_product}
 use Rattle.polynomials.specs.Polynomials.{Term, term, Polynomial, IsPolynomial, collected, sum_of, product_of, term_product, term_products}
@@ -25,15 +24,12 @@ cancels : (p c y l : ℕ) → y ≤ p → y * l % p ≡ c → (c + (p - y) % p *
 cancels p c y l most e =
     ap (λ x. (x + (p - y) % p * l) % p) (sym e)
     ∙ (mod-add-mod (y * l) p ((p - y) % p * l)
-    ∙ (ap (λ x. x % p) (commuted (y * l) ((p - y) % p * l))
+    ∙ (ap (λ x. x % p) (add_comm (y * l) ((p - y) % p * l))
     ∙ (sym (mod-add-mod ((p - y) % p * l) p (y * l))
     ∙ (ap (λ x. (x + y * l) % p) (mul-mod_first (p - y) l p)
     ∙ (mod-add-mod ((p - y) * l) p (y * l)
     ∙ (ap (λ x. x % p) (whole (p - y) y l p (omega arith)) ∙ mul-mod_right p l))))))
   where
-    commuted : (a b : ℕ) → a + b ≡ b + a
-    commuted a b = omega arith
-
     whole : (d y l p : ℕ) → d + y ≡ p → d * l + y * l ≡ p * l
     whole d y l p e = grind arith
 
@@ -58,7 +54,7 @@ module _ (p : ℕ) where
         let added = set cs place ((get_or cs place 0 + factor * e.1 % p) % p) in
         let later = multiples (s, factor) (drop (i + 1) es) in
         let first = term (monomial_product (power_monomial n 0 s) (power_monomial n 0 e.0)) (factor * e.1) in
-        let items : drop i es ≡ e ∷ drop (i + 1) es = drop-cons es i (0, 0) below ∙ (ap (λ x. x ∷ drop (suc i) es) (sym at) ∙ ap (λ k. e ∷ drop k es) (sym (add-one i))) in
+        let items : drop i es ≡ e ∷ drop (i + 1) es = drop_more es i (0, 0) below ∙ ap (λ x. x ∷ drop (i + 1) es) (sym at) in
         let monomial : power_monomial n 0 (place + 0) ≡ monomial_product (power_monomial n 0 s) (power_monomial n 0 e.0) = ap (power_monomial n 0) (omega arith) ∙ sym (power-product n s e.0) in
         let step : SameSums p (terms_from n 0 added) (first ∷ terms_from n 0 cs) = SameSums-trans p _ _ _ (terms_from-set n p 0 cs place (factor * e.1 % p) within) (SameSums-trans p _ _ _ (SameSums-reduced p (power_monomial n 0 (place + 0)) (factor * e.1) (terms_from n 0 cs)) (SameSums-from_path p _ _ (ap (λ m. term m (factor * e.1) ∷ terms_from n 0 cs) monomial))) in
         SameSums-trans p _ _ _ (SameSums-append p (terms_from n 0 added) later (first ∷ terms_from n 0 cs) later step (SameSums-refl p later))

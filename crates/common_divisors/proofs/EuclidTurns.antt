@@ -20,12 +20,6 @@ pub divides_each : (p n : ℕ) (g : Polynomial) (fs : List Polynomial) → ((k :
 divides_each p n g [] each = tt
 divides_each p n g (f ∷ fs) each = (each 0 f (omega arith) refl, divides_each p n g fs (λ k h below at. each (suc k) h (omega arith) at))
 
--- the item of a list of canonical polynomials is one
-pub IsPolynomial-at : (p n : ℕ) (fs : List Polynomial) (k : ℕ) (f : Polynomial) → ArePolynomials p n fs → slice_get fs k ≡ Some f → IsPolynomial p n f
-IsPolynomial-at p n [] k f ifs at = cc
-IsPolynomial-at p n (g ∷ fs) zero f ifs at = let same : g ≡ f = cc in subst (IsPolynomial p n) same ifs.0
-IsPolynomial-at p n (g ∷ fs) (suc k) f ifs at = IsPolynomial-at p n fs k f ifs.1 at
-
 module _ (p n : ℕ) (many : 1 < p) where
   -- the second of two polynomials is in their ideal
   pub second_in_ideal : (a b : Polynomial) → IsPolynomial p n a → IsPolynomial p n b → IsInIdeal p n (a ∷ b ∷ []) b

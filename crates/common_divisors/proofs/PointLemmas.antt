@@ -3,18 +3,15 @@ use Rattle.std.proofs.Common.{◌≡◌, ◌≢◌, ◌↔◌, ℕ, zero, suc, �
 use Rattle.polynomials.specs.Primes.{IsPrime}
 use Rattle.polynomials.specs.Polynomials.{Polynomial, IsPolynomial, product_of, constant_of, one_of, same_polynomial}
 use Rattle.polynomials.specs.Equalities.{same_polynomial_decides}
-use Rattle.polynomials.specs.Rings.{Ring, value}
 use Rattle.polynomials.specs.Views.{main_var, initial_of, IsFreeOf}
-use Rattle.polynomials.proofs.RingLaws.{times-nil}
-use Rattle.polynomials.proofs.Values.{value-product_of}
 use Rattle.polynomials.proofs.ConstantLemmas.{constant_of-one}
 use Rattle.polynomials.proofs.InitialLemmas.{IsPolynomial-initial_of, initial_of_nonzero, initial_of_free}
 use Rattle.polynomials.proofs.MainVariables.{degree_in_main_var, free_without_main_var, constant_from_free}
 use Rattle.zero_sets.specs.Domains.{Tables, IsFiniteDomain, IsPoint, plus_in, value_at}
 use Rattle.zero_sets.specs.ZeroSets.{InZeroSet, InQuasiComponent}
 use Rattle.zero_sets.specs.Certificates.{combination}
-use Rattle.zero_sets.proofs.TableRings.{Element, table_ring, has_characteristic, coordinates}
-use Rattle.zero_sets.proofs.ValueLaws.{value_at-sum_of, value_at-constant_of, zero_number, zero_element}
+use Rattle.zero_sets.proofs.ValueLaws.{value_at-sum_of, value_at-constant_of}
+use Rattle.zero_sets.proofs.PointFacts.{product_zero_right}
 use Rattle.common_divisors.specs.Ideals.{DividesEach}
 use Rattle.common_divisors.specs.Divisors.{IsUnivariate, IsMonic, IsGreatestCommonDivisor}
 use Rattle.common_divisors.specs.Chains.{chains_of, IsCovered}
@@ -27,27 +24,16 @@ monic_constant n zero h = absurd h
 monic_constant n (suc c) h = ap (constant_of n) h ∙ constant_of-one n
 
 module _ (p : ℕ) (r : Tables) (domain : IsFiniteDomain p r) (xs : List ℕ) (point : IsPoint r xs) where
-  abbrev R : Ring (Element r)
-  R = table_ring p r domain
-
-  -- the value in the ring of the domain
-  abbrev V : Polynomial → Element r
-  V f = value R (coordinates p r domain xs point) f
-
-  -- a factor that is 0 makes the product 0
-  product_zero : (f g : Polynomial) → value_at r xs g ≡ r.nil → value_at r xs (product_of p f g) ≡ r.nil
-  product_zero f g e = zero_number p r domain xs point (product_of p f g) (value-product_of R p (has_characteristic p r domain) (coordinates p r domain xs point) f g ∙ (ap (λ u. R.◌⊗◌ (V f) u) (zero_element p r domain xs point g e) ∙ times-nil R (V f)))
-
   -- a sum of products with zeros is 0
   combination_zero : (cs gs : List Polynomial) → InZeroSet r xs gs → value_at r xs (combination p cs gs) ≡ r.nil
   combination_zero [] gs zeros = refl
   combination_zero (c ∷ cs) [] zeros = refl
-  combination_zero (c ∷ cs) (g ∷ gs) zeros = value_at-sum_of p r domain xs point (product_of p c g) (combination p cs gs) ∙ (ap₂ (plus_in r) (product_zero c g zeros.0) (combination_zero cs gs zeros.1) ∙ domain.nil-add r.nil domain.nil_below)
+  combination_zero (c ∷ cs) (g ∷ gs) zeros = value_at-sum_of p r domain xs point (product_of p c g) (combination p cs gs) ∙ (ap₂ (plus_in r) (product_zero_right p r domain xs point c g zeros.0) (combination_zero cs gs zeros.1) ∙ domain.nil-add r.nil domain.nil_below)
 
   -- multiples of what is 0 are 0
   multiples_zero : (n : ℕ) (g : Polynomial) (fs : List Polynomial) → DividesEach p n g fs → value_at r xs g ≡ r.nil → InZeroSet r xs fs
   multiples_zero n g [] divides e = tt
-  multiples_zero n g (f ∷ fs) divides e = (ap (value_at r xs) (sym divides.0.2) ∙ product_zero divides.0.0 g e, multiples_zero n g fs divides.1 e)
+  multiples_zero n g (f ∷ fs) divides e = (ap (value_at r xs) (sym divides.0.2) ∙ product_zero_right p r domain xs point divides.0.0 g e, multiples_zero n g fs divides.1 e)
 
   -- the common zeros are the zeros of the divisor
   pub common_zeros : (n : ℕ) (fs : List Polynomial) (g : Polynomial) → IsGreatestCommonDivisor p n fs g → InZeroSet r xs fs ↔ (value_at r xs g ≡ r.nil)

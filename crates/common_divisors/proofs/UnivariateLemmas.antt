@@ -1,7 +1,7 @@
 -- Lists of polynomials in the first variable.
 use Rattle.std.proofs.Common.{◌≡◌, ℕ, ◌<◌, ◌≤◌, List, [], ◌∷◌, ◌++◌, arith}
 use Rattle.polynomials.specs.Monomials.{Monomial, exponent_of}
-use Rattle.polynomials.specs.Polynomials.{Term, Polynomial, IsPolynomial, ArePolynomials, collected}
+use Rattle.polynomials.specs.Polynomials.{Term, collected}
 use Rattle.polynomials.proofs.Degrees.{degree_in-from_bound}
 use Rattle.polynomials.proofs.Exponents.{power_monomial, exponent_of-power_monomial_other}
 use Rattle.polynomials.proofs.Monomialwise.{EachMonomial, EachMonomial-append, EachMonomial-implied, EachMonomial-collected}
@@ -20,8 +20,3 @@ powers_univariate p ts powers v above =
 -- one power more
 pub power_added : (n e c : ℕ) (ts : List Term) → EachMonomial IsPower ts → EachMonomial IsPower (ts ++ (power_monomial n 0 e, c) ∷ [])
 power_added n e c ts powers = EachMonomial-append IsPower ts ((power_monomial n 0 e, c) ∷ []) powers ((λ v above. exponent_of-power_monomial_other n 0 v e (λ same. absurd (omega arith))), tt)
-
--- one polynomial more
-pub polynomial_added : (p n : ℕ) (fs : List Polynomial) (f : Polynomial) → ArePolynomials p n fs → IsPolynomial p n f → ArePolynomials p n (fs ++ f ∷ [])
-polynomial_added p n [] f ifs i = (i, tt)
-polynomial_added p n (g ∷ fs) f ifs i = (ifs.0, polynomial_added p n fs f ifs.1 i)

@@ -1,11 +1,11 @@
 -- Division by one factor, turn by turn: how many turns there are makes no difference once there are enough.
-use Rattle.std.proofs.Common.{◌≡◌, ◌≢◌, ◌⊎◌, ℕ, zero, suc, ◌<◌, false, [], ◌∷◌, Option, Some, None, sum, refl, sym, ap, ◌∙◌, inl, inr, arith}
+use Rattle.std.proofs.Common.{◌≡◌, ◌≢◌, ℕ, zero, suc, ◌<◌, false, [], Option, Some, None, sum, refl, sym, ap, ◌∙◌, inl, inr, arith}
 use Rattle.polynomials.specs.Primes.{IsPrime}
 use Rattle.polynomials.specs.Polynomials.{Polynomial, IsPolynomial}
 use Rattle.polynomials.specs.Views.{is_constant}
 use Rattle.polynomials.specs.Fits.{degrees}
 use Rattle.division_rules.specs.Quotients.{quotient_within, without_factor, factor_bound}
-use Rattle.division_rules.proofs.QuotientFacts.{quotient_within_canonical, quotient_within_nonzero, quotient_within_zero}
+use Rattle.division_rules.proofs.QuotientFacts.{quotient_within_canonical, quotient_within_nonzero, quotient_within_zero, zero_or_not}
 use Rattle.division_rules.proofs.Factors.{without_factor_zero}
 use Rattle.division_rules.proofs.FactorBounds.{sum_of_degrees_positive, sum_of_degrees_adds}
 
@@ -17,10 +17,6 @@ without_factor_stays p w b f (suc k) e = ap (λ o. elim o as (λ _. Polynomial) 
 -- a quotient takes one turn
 pub without_factor_turn : (p w : ℕ) (b f q : Polynomial) (k : ℕ) → quotient_within p w f b ≡ Some q → without_factor p w b (suc k) f ≡ without_factor p w b k q
 without_factor_turn p w b f q k e = ap (λ o. elim o as (λ _. Polynomial) [ None ↦ f | Some q ↦ without_factor p w b k q ]) e
-
-zero_or_not : (f : Polynomial) → (f ≡ []) ⊎ (f ≢ [])
-zero_or_not [] = inl refl
-zero_or_not (t ∷ f) = inr (λ e. cc)
 
 module _ (p n w : ℕ) (prime : IsPrime p) (b : Polynomial) (ib : IsPolynomial p n b) (varies : is_constant b ≡ false) where
   -- a quotient by what isn't constant has a lesser sum of degrees

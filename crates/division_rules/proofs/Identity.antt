@@ -1,32 +1,29 @@
 -- Each step keeps the identity of a row: it is the combination of its cofactors and the generators.
 use Rattle.std.proofs.Common.{◌≡◌, ◌≢◌, ℕ, suc, ◌+◌, List, [], ◌∷◌, ◌++◌, length, map, replicate, Option, Some, None, refl, sym, ap, ap₂, subst, ◌∙◌, length-append, append_assoc, arith}
 use Rattle.std.proofs.lemmas.List.{length-replicate}
+use Rattle.std.proofs.lemmas.Option.{same_Some}
 use Rattle.polynomials.proofs.RingLaws.{times_comm, times_cancel_left, nil-plus, plus-nil, one-times}
 use Rattle.division_rules.specs.Operations.{lead, shifted_lead}
 use Rattle.division_rules.specs.Rows.{Row, combined, cross_rows, elimination, sparse_remainder, turns, times_row, pseudo_remainder, reduction}
 use Rattle.division_rules.specs.Units.{IsCombinationOf, unit_rows, entrywise_sum}
-use Rattle.division_rules.specs.RemainderRows.{or_else, both, row_of, quotients, divided}
+use Rattle.division_rules.specs.RemainderRows.{both, row_of, quotients, divided}
 use Rattle.division_rules.specs.Chains.{EachRow}
 use Rattle.division_rules.proofs.Settings.{ViewedRing, operations}
 use Rattle.division_rules.proofs.Combinations.{length-entrywise_sum, combined-entrywise_sum, combined-times, combined-cross_all, length-cross_all, combined-zeros, combined-append}
 use Rattle.division_rules.proofs.Steps.{sparse_remainder_by-keeps, pseudo_remainder_by-keeps, reduction-keeps, Keeps, EachRow-map}
 
--- what is there is one thing
-pub some_same : {A : Type 0} (x y : A) → Some x ≡ Some y → x ≡ y
-some_same x y e = ap (λ a. or_else a x) e
-
 -- a list that is there has its head and its tail there
 pub both-some : {A : Type 0} (a : Option A) (ys : Option (List A)) (qs : List A) → both a ys ≡ Some qs → (q : A) × (rest : List A) × (a ≡ Some q) × (ys ≡ Some rest) × (qs ≡ q ∷ rest)
 both-some None ys qs e = cc
 both-some (Some x) None qs e = cc
-both-some (Some x) (Some ys) qs e = (x, ys, refl, refl, sym (some_same (x ∷ ys) qs e))
+both-some (Some x) (Some ys) qs e = (x, ys, refl, refl, sym (same_Some (x ∷ ys) qs e))
 
 -- a row that is there has its entries there
 pub row_of-some : {A : Type 0} (a : Option A) (ys : Option (List A)) (h : Row A) → row_of a ys ≡ Some h → (a ≡ Some h.first) × (ys ≡ Some h.cofactors)
 row_of-some None ys h e = cc
 row_of-some (Some x) None h e = cc
 row_of-some (Some x) (Some ys) h e =
-    let same = some_same (record { first = x; cofactors = ys }) h e in
+    let same = same_Some (record { first = x; cofactors = ys }) h e in
     (ap (λ (t : Row _). Some t.first) same, ap (λ (t : Row _). Some t.cofactors) same)
 
 -- a list keeps its length where each element is replaced
@@ -78,7 +75,7 @@ module _ {A : Type 0} (P : ViewedRing A) where
 
     -- quotients by b, times b, are what was divided
     pub quotients-times : (w : ℕ) (b : A) (cs qs : List A) → quotients (operations P) w b cs ≡ Some qs → map (◌⊗◌ b) qs ≡ cs
-    quotients-times w b [] qs e = ap (map (◌⊗◌ b)) (sym (some_same [] qs e))
+    quotients-times w b [] qs e = ap (map (◌⊗◌ b)) (sym (same_Some [] qs e))
     quotients-times w b (c ∷ cs) qs e =
         let parts = both-some (P.views.quotient w c b) (quotients (operations P) w b cs) qs e in
         ap (map (◌⊗◌ b)) parts.4 ∙ ap₂ ◌∷◌ (times_comm P.ring b parts.0 ∙ P.laws.quotient-sound w c b parts.0 parts.2) (quotients-times w b cs parts.1 parts.3)

@@ -31,7 +31,8 @@ module _ (p n w : ℕ) (f g q : Polynomial) (prime : IsPrime p) (i : IsPolynomia
       let same = sym (quotient_within_of_zero p w g (quotient_within_divisor p w f g q quotient)) ∙ ap (λ x. quotient_within p w x g) (sym none) ∙ quotient in
       cc
 
-zero_or_not : (f : Polynomial) → (f ≡ []) ⊎ (f ≢ [])
+-- a polynomial is 0 or not
+pub zero_or_not : (f : Polynomial) → (f ≡ []) ⊎ (f ≢ [])
 zero_or_not [] = inl refl
 zero_or_not (t ∷ f) = inr (λ e. cc)
 

@@ -1,5 +1,5 @@
 -- The quotient within a width is the factor that fits, where there is one.
-use Rattle.std.proofs.Common.{◌≡◌, ◌≢◌, ℕ, suc, ◌+◌, ◌*◌, ◌<◌, ◌≤◌, Bool, true, false, ◌&&◌, [], ◌∷◌, length, Option, Some, None, refl, sym, ap, ◌∙◌, subst, inl, inr, arith}
+use Rattle.std.proofs.Common.{◌≡◌, ◌≢◌, ℕ, suc, ◌+◌, ◌*◌, ◌<◌, ◌≤◌, true, false, ◌&&◌, [], ◌∷◌, length, Option, Some, None, refl, sym, ap, ◌∙◌, subst, inl, inr, arith}
 use Rattle.std.proofs.lemmas.Bool.{and_parts, and_from}
 use Rattle.polynomials.specs.Primes.{IsPrime}
 use Rattle.polynomials.specs.Equalities.{same_polynomial_decides}
@@ -7,19 +7,14 @@ use Rattle.polynomials.specs.Polynomials.{Polynomial, IsPolynomial, collected, p
 use Rattle.polynomials.specs.Fits.{fits}
 use Rattle.polynomials.proofs.Canonical.{IsPolynomial-collected}
 use Rattle.polynomials.proofs.SamePolynomials.{collected_itself}
-use Rattle.polynomials.proofs.FitsLemmas.{fits_in_each_variable}
+use Rattle.polynomials.proofs.FitsLemmas.{fits_in_each_variable, passes_test}
 use Rattle.division_rules.specs.Quotients.{quotient_terms, tested_quotient, quotient_within}
 use Rattle.division_rules.proofs.QuotientTerms.{quotient_terms-product, HaveLength-quotient_terms}
-
--- what the test lets through
-quotient_if : (b : Bool) (q r : Polynomial) → elim b as (λ _. Option Polynomial) [ true ↦ Some q | false ↦ None ] ≡ Some r → (b ≡ true) × (q ≡ r)
-quotient_if true q r e = (refl, cc)
-quotient_if false q r e = cc
 
 -- a quotient that passes the test is one, and fits
 pub tested_quotient_is : (p w : ℕ) (f g q r : Polynomial) → tested_quotient p w f g q ≡ Some r → (q ≡ r) × (product_of p r g ≡ f) × (fits w r g ≡ true)
 tested_quotient_is p w f g q r e =
-    let parts = quotient_if (same_polynomial (product_of p q g) f && fits w q g) q r e in
+    let parts = passes_test (same_polynomial (product_of p q g) f && fits w q g) q r e in
     let tests = and_parts (same_polynomial (product_of p q g) f) (fits w q g) parts.0 in (
       parts.1,
       ap (λ x. product_of p x g) (sym parts.1) ∙ (same_polynomial_decides (product_of p q g) f).0 tests.0,

@@ -4,12 +4,18 @@ use Rattle.std.proofs.lemmas.Bool.{eqb-true, eqb-false}
 use Rattle.division_rules.specs.Rows.{Row, pseudo_remainder}
 use Rattle.division_rules.specs.Chains.{EachRow, IfRow, IsReduced}
 use Rattle.division_rules.specs.RemainderRows.{Rows, with_row, Memory, fall, next_psi, next_beta, undivided, next_row, rows_from, remainder_rows}
-use Rattle.division_rules.specs.Turns.{IsBase, IsTurn, DegreesFall}
+use Rattle.division_rules.specs.Turns.{IsBase, IsTurn, DegreesFall, last_row}
 use Rattle.division_rules.specs.Units.{IsCombinationOf}
+use Rattle.division_rules.specs.Operations.{Operations}
 use Rattle.division_rules.proofs.Settings.{ViewedRing, operations}
 use Rattle.division_rules.proofs.Steps.{choose}
 use Rattle.division_rules.proofs.Identity.{combination-pseudo_remainder, combination-reduction, combination-divided}
 use Rattle.division_rules.proofs.Turns.{next_row_is, next_turn, next_beta_free_nonzero}
+
+-- the row before a zero row has v
+pub last_occurs : {A : Type 0} (o : Operations A) (v : ℕ) (g : Row A) (later : List (Row A)) (z : Row A) → DegreesFall o v g later (Some z) → 1 ≤ o.views.degree v (last_row g later).first
+last_occurs o v g [] z falls = falls.0
+last_occurs o v g (h ∷ later) z falls = last_occurs o v h later z falls.2
 
 module _ {A : Type 0} (P : ViewedRing A) (w v : ℕ) (chain : List (Row A)) (base : IsBase P.ring P.views P.laws v chain) where
   open P.ring use {nil}

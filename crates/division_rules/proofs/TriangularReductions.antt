@@ -1,11 +1,11 @@
 -- The reduction of lists of terms by a triangular set is reduced by it.
-use Rattle.std.proofs.Common.{◌≡◌, ℕ, zero, suc, ◌<◌, ◌≤◌, List, [], ◌∷◌, Some, sym, ap, ap₂, ◌∙◌, subst, arith}
+use Rattle.std.proofs.Common.{◌≡◌, ℕ, suc, ◌<◌, ◌≤◌, List, [], ◌∷◌, Some, sym, ap, ap₂, ◌∙◌, subst, arith}
 use Rattle.polynomials.specs.Primes.{IsPrime}
 use Rattle.polynomials.specs.Polynomials.{Polynomial}
 use Rattle.polynomials.specs.Views.{degree_in, main_var}
 use Rattle.polynomials.proofs.PolynomialRing.{CanonicalPolynomial}
 use Rattle.polynomials.proofs.MainVariables.{degree_in_main_var, free_above_main_var}
-use Rattle.polynomials.proofs.ExponentsBelow.{ExponentsBelow, ExponentsBelow-one, degree_in-from_ExponentsBelow}
+use Rattle.polynomials.proofs.ExponentsBelow.{ExponentsBelow, ExponentsBelow-one, degree_in-less}
 use Rattle.division_rules.specs.Rows.{Row, reduction}
 use Rattle.division_rules.specs.Lists.{list_operations, variable_or_zero}
 use Rattle.division_rules.specs.Chains.{EachRow, IsBelow, IsChain, IsReduced}
@@ -18,13 +18,6 @@ use Rattle.division_rules.proofs.PolynomialSetting.{polynomial_setting}
 use Rattle.division_rules.proofs.CanonicalViews.{canonical_operations}
 use Rattle.division_rules.proofs.Down.{down, down_all, down-reduction}
 use Rattle.division_rules.proofs.Up.{up, up_rows, down-up, down-up_rows}
-
--- from a bound that isn't 0, the degree is less
-degree_less : (v d : ℕ) (f : Polynomial) → 0 < d → ExponentsBelow v d f → degree_in v f < d
-degree_less v zero f some h = absurd (omega arith)
-degree_less v (suc d) f some h =
-    let bound = degree_in-from_ExponentsBelow v d f h in
-    omega arith
 
 module _ (p n : ℕ) (prime : IsPrime p) where
   abbrev P : ViewedRing (CanonicalPolynomial p n)
@@ -58,7 +51,7 @@ module _ (p n : ℕ) (prime : IsPrime p) where
   less_degrees h (t ∷ chain) are reduced = (less, less_degrees h chain are.1 reduced.1)
     where
       less : (v : ℕ) → main_var t.first ≡ Some v → degree_in v h.0 < degree_in v t.first
-      less v main = degree_less v (degree_in v t.first) h.0 (degree_in_main_var v t.first main) (subst (λ y. ExponentsBelow y (degree_in y t.first) h.0) (ap variable_or_zero main) reduced.0)
+      less v main = degree_in-less v (degree_in v t.first) h.0 (degree_in_main_var v t.first main) (subst (λ y. ExponentsBelow y (degree_in y t.first) h.0) (ap variable_or_zero main) reduced.0)
 
 -- the law of reductions
 pub reduction_is_reduced : ReductionIsReduced

@@ -1,5 +1,6 @@
 -- Canonical lists of terms are those of canonical polynomials, and so are rows of them.
-use Rattle.std.proofs.Common.{◌≡◌, ℕ, ◌<◌, List, [], ◌∷◌, Option, Some, None, option_map, refl, ap, ap₂, subst}
+use Rattle.std.proofs.Common.{◌≡◌, ℕ, ◌<◌, List, [], ◌∷◌, Option, Some, None, option_map, refl, ap, ap₂, subst, suc, length}
+use Rattle.std.proofs.lemmas.Option.{same_Some}
 use Rattle.polynomials.specs.Polynomials.{Polynomial, IsPolynomial, ArePolynomials}
 use Rattle.polynomials.proofs.PolynomialRing.{CanonicalPolynomial}
 use Rattle.division_rules.specs.Rows.{Row, plains}
@@ -9,9 +10,10 @@ use Rattle.division_rules.specs.PolynomialRows.{IsPolynomialRow, ArePolynomialRo
 use Rattle.division_rules.proofs.Down.{terms, terms_all, down, down_all}
 use Rattle.division_rules.proofs.DownRows.{down_rows}
 
--- what is there is the same
-some_same : {X : Type 0} (x y : X) → Some x ≡ Some y → x ≡ y
-some_same x y e = cc
+-- canonical lists of terms as rows without cofactors
+pub plains_canonical : (p n : ℕ) (fs : List Polynomial) → ArePolynomials p n fs → ArePolynomialRows p n (plains fs)
+plains_canonical p n [] are = tt
+plains_canonical p n (f ∷ fs) are = ((are.0, tt), plains_canonical p n fs are.1)
 
 module _ (p n : ℕ) (many : 1 < p) where
   -- canonical lists of terms as canonical polynomials
@@ -32,6 +34,11 @@ module _ (p n : ℕ) (many : 1 < p) where
   pub terms-up_all : (fs : List Polynomial) (are : ArePolynomials p n fs) → terms_all p n many (up_all fs are) ≡ fs
   terms-up_all [] are = refl
   terms-up_all (f ∷ fs) are = ap (λ x. f ∷ x) (terms-up_all fs are.1)
+
+  -- as many as there are lists
+  pub length-up_all : (fs : List Polynomial) (are : ArePolynomials p n fs) → length (up_all fs are) ≡ length fs
+  length-up_all [] are = refl
+  length-up_all (f ∷ fs) are = ap suc (length-up_all fs are.1)
 
   -- so is a row
   pub down-up : (f : Row Polynomial) (i : IsPolynomialRow p n f) → down p n many (up f i) ≡ f
@@ -56,11 +63,6 @@ module _ (p n : ℕ) (many : 1 < p) where
   down_all_canonical [] = tt
   down_all_canonical (f ∷ fs) = (down_canonical f, down_all_canonical fs)
 
-  -- canonical lists of terms as rows without cofactors
-  pub plains_canonical : (fs : List Polynomial) → ArePolynomials p n fs → ArePolynomialRows p n (plains fs)
-  plains_canonical [] are = tt
-  plains_canonical (f ∷ fs) are = ((are.0, tt), plains_canonical fs are.1)
-
   -- remainder rows of canonical polynomials are canonical
   pub down_rows_canonical : (rows : Rows (CanonicalPolynomial p n)) → AreRemainderRows p n (down_rows p n many rows)
   down_rows_canonical rows = (down_all_canonical rows.later, last rows.last)
@@ -72,19 +74,19 @@ module _ (p n : ℕ) (many : 1 < p) where
   -- and what is there of an option
   pub if_canonical : (x : Option (CanonicalPolynomial p n)) (f : Polynomial) → option_map (terms p n many) x ≡ Some f → IsPolynomial p n f
   if_canonical None f e = cc
-  if_canonical (Some g) f e = subst (IsPolynomial p n) (some_same g.0 f e) g.1
+  if_canonical (Some g) f e = subst (IsPolynomial p n) (same_Some g.0 f e) g.1
 
   -- a list
   pub if_all_canonical : (xs : Option (List (CanonicalPolynomial p n))) (fs : List Polynomial) → option_map (terms_all p n many) xs ≡ Some fs → ArePolynomials p n fs
   if_all_canonical None fs e = cc
-  if_all_canonical (Some gs) fs e = subst (ArePolynomials p n) (some_same (terms_all p n many gs) fs e) (terms_canonical gs)
+  if_all_canonical (Some gs) fs e = subst (ArePolynomials p n) (same_Some (terms_all p n many gs) fs e) (terms_canonical gs)
 
   -- a row
   pub if_row_canonical : (x : Option (Row (CanonicalPolynomial p n))) (f : Row Polynomial) → option_map (down p n many) x ≡ Some f → IsPolynomialRow p n f
   if_row_canonical None f e = cc
-  if_row_canonical (Some g) f e = subst (IsPolynomialRow p n) (some_same (down p n many g) f e) (down_canonical g)
+  if_row_canonical (Some g) f e = subst (IsPolynomialRow p n) (same_Some (down p n many g) f e) (down_canonical g)
 
   -- remainder rows
   pub if_rows_canonical : (x : Option (Rows (CanonicalPolynomial p n))) (rows : Rows Polynomial) → option_map (down_rows p n many) x ≡ Some rows → AreRemainderRows p n rows
   if_rows_canonical None rows e = cc
-  if_rows_canonical (Some g) rows e = subst (AreRemainderRows p n) (some_same (down_rows p n many g) rows e) (down_rows_canonical g)
+  if_rows_canonical (Some g) rows e = subst (AreRemainderRows p n) (same_Some (down_rows p n many g) rows e) (down_rows_canonical g)

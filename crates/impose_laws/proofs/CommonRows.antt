@@ -13,6 +13,7 @@ use Rattle.division_rules.specs.Chains.{EachRow}
 use Rattle.division_rules.specs.RemainderRows.{leads}
 use Rattle.division_rules.specs.Turns.{last_row, DegreesFall}
 use Rattle.division_rules.specs.PolynomialRows.{IsPolynomialRow}
+use Rattle.division_rules.proofs.RowsShape.{last_occurs}
 use Rattle.impose_rules.proofs.Lists.{each_implied}
 use Rattle.impose_laws.proofs.RowStarts.{IsStart}
 use Rattle.impose_rules.proofs.ChainParts.{HasMainBelow, canonical_each}
@@ -77,10 +78,6 @@ module _ (p n : ℕ) (prime : IsPrime p) (w v : ℕ) (chain : List Polynomial) (
   pub chain_without : (x : ℕ) → v < x → AllByRecursion (IsFreeOf x) chain
   chain_without x less = each_implied (HasMainBelow v) (IsFreeOf x) (λ u h. free_above_main_var h.0 x u h.1 (omega (arith, h.2))) chain start.below
 
-  last_occurs : (g : Row Polynomial) (later : List (Row Polynomial)) (z : Row Polynomial) → DegreesFall (list_operations p n) v g later (Some z) → 1 ≤ degree_in v (last_row g later).first
-  last_occurs g [] z h = h.0
-  last_occurs g (f ∷ later) z h = last_occurs f later z h.2
-
   -- where a zero row ends the rows, v is the main variable of the last
   pub last_main : (z : Row Polynomial) → (rows p n prime w v chain t c start).last ≡ Some z → main_var t ≡ Some v → main_var c ≡ Some v → main_var last_polynomial ≡ Some v
-  last_main z e main_t main_c = (main_variable_is_greatest v last_polynomial).1 (last_occurs (plain c) later_rows z (subst (DegreesFall (list_operations p n) v (plain c) later_rows) e (rows_degrees p n prime w v chain t c start)), λ x less. last_without x (chain_without x less) (free_above_main_var v x t main_t less) (free_above_main_var v x c main_c less))
+  last_main z e main_t main_c = (main_variable_is_greatest v last_polynomial).1 (last_occurs (list_operations p n) v (plain c) later_rows z (subst (DegreesFall (list_operations p n) v (plain c) later_rows) e (rows_degrees p n prime w v chain t c start)), λ x less. last_without x (chain_without x less) (free_above_main_var v x t main_t less) (free_above_main_var v x c main_c less))

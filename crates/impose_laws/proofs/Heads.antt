@@ -6,6 +6,7 @@ use Rattle.polynomials.specs.Polynomials.{Polynomial, IsPolynomial, ArePolynomia
 use Rattle.polynomials.specs.Views.{main_var, IsFreeOf}
 use Rattle.polynomials.proofs.MainVariables.{degree_in_main_var}
 use Rattle.zero_sets.specs.ZeroSets.{IsTriangularFrom, IsTriangular, member_in, members_below}
+use Rattle.zero_sets.proofs.TriangularSets.{below_triangular}
 use Rattle.division_rules.specs.Rows.{Row, plain, plains, reduction}
 use Rattle.division_rules.specs.Within.{reduction_within}
 use Rattle.division_rules.specs.Lists.{list_operations}
@@ -19,10 +20,10 @@ use Rattle.impose_rules.specs.Factors.{stripped}
 use Rattle.impose_rules.specs.Impose.{reduced_head}
 use Rattle.impose_rules.proofs.Lists.{each_implied, each_both}
 use Rattle.impose_laws.proofs.Options.{then_some}
-use Rattle.impose_laws.proofs.RowStarts.{IsStart, triangular_rows}
+use Rattle.impose_laws.proofs.RowStarts.{IsStart}
 use Rattle.impose_laws.proofs.RowShapes.{reduction_without}
 use Rattle.impose_laws.proofs.Stripped.{IsPolynomial-stripped, degree_in-stripped, stripped_free}
-use Rattle.impose_rules.proofs.ChainParts.{each_canonical, canonical_each, member_of_chain, each_below, below_are_below, below_triangular}
+use Rattle.impose_rules.proofs.ChainParts.{each_canonical, canonical_each, member_of_chain, each_below, below_are_below, triangular_plains}
 
 -- a canonical polynomial that is reduced by the chain
 pub record IsHead (p n : ℕ) (chain : List Polynomial) (r : Polynomial) : Type 0 where
@@ -52,13 +53,13 @@ module _ (p n w : ℕ) (prime : IsPrime p) (chain ns : List Polynomial) (are : A
 
   -- the reduction is canonical
   pub IsPolynomial-reduced_by : (f : Polynomial) → IsPolynomial p n f → IsPolynomial p n (reduced_by f)
-  IsPolynomial-reduced_by f i = (IsPolynomialRow-reduction p n prime.many (plains chain) (plain f) (plains_canonical p n prime.many chain are) (i, tt)).0
+  IsPolynomial-reduced_by f i = (IsPolynomialRow-reduction p n prime.many (plains chain) (plain f) (plains_canonical p n chain are) (i, tt)).0
 
   -- so the head is canonical and reduced
   pub head_is_head : (f r : Polynomial) (rest : List Polynomial) → IsPolynomial p n f → reduced_head p n w chain rest ns f ≡ Some r → IsHead p n chain r
   head_is_head f r rest i e = subst (IsHead p n chain) (sym (head_is f r rest e)) (record {
     canonical = IsPolynomial-stripped p n w prime ns are_ns (reduced_by f) (IsPolynomial-reduced_by f i);
-    reduced = each_implied (λ u. HasLessDegree (reduced_by f) (plain u)) (λ u. HasLessDegree (stripped p w ns (reduced_by f)) (plain u)) (λ u h v main. lt_of_le_of_lt (degree_in-stripped p n w prime ns are_ns v (reduced_by f) (IsPolynomial-reduced_by f i)) (h v main)) chain (each_plain (HasLessDegree (reduced_by f)) chain (reduction_is_reduced p n (plains chain) (plain f) prime (plains_canonical p n prime.many chain are) (i, tt) (triangular_rows 0 chain triangular)));
+    reduced = each_implied (λ u. HasLessDegree (reduced_by f) (plain u)) (λ u. HasLessDegree (stripped p w ns (reduced_by f)) (plain u)) (λ u h v main. lt_of_le_of_lt (degree_in-stripped p n w prime ns are_ns v (reduced_by f) (IsPolynomial-reduced_by f i)) (h v main)) chain (each_plain (HasLessDegree (reduced_by f)) chain (reduction_is_reduced p n (plains chain) (plain f) prime (plains_canonical p n chain are) (i, tt) (triangular_plains 0 chain triangular)));
   })
 
   -- a variable that occurs neither in the chain nor in f doesn't occur in the head

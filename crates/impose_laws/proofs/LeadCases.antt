@@ -1,5 +1,5 @@
 -- At a point of a task either a lead case has it, or no lead is zero there.
-use Rattle.std.proofs.Common.{◌≡◌, ◌≢◌, ◌⊎◌, inl, inr, ℕ, suc, Bool, true, false, List, [], ◌∷◌, ◌++◌, map, length, append_assoc, length-append, refl, sym, ap, ◌∙◌, subst, arith}
+use Rattle.std.proofs.Common.{◌≡◌, ◌≢◌, ◌⊎◌, inl, inr, ℕ, suc, Bool, true, false, List, [], ◌∷◌, ◌++◌, map, length, append_assoc, refl, sym, ap, ◌∙◌, subst}
 use Rattle.std.specs.List.{AllByRecursion}
 use Rattle.polynomials.specs.Primes.{IsPrime}
 use Rattle.polynomials.specs.Polynomials.{Polynomial, IsPolynomial, ArePolynomials, monic}
@@ -10,7 +10,7 @@ use Rattle.zero_sets.proofs.ValueLaws.{value_at-monic}
 use Rattle.zero_sets.proofs.PointFacts.{zero_or_not}
 use Rattle.impose_rules.specs.Leads.{with_all_nonzero, unknown_from}
 use Rattle.impose_rules.specs.Impose.{child_lead}
-use Rattle.impose_rules.proofs.LeadPlaces.{place_of, with_all-one_more}
+use Rattle.impose_rules.proofs.LeadPlaces.{place_of, with_all-one_more, next_place}
 use Rattle.impose_laws.specs.TaskForms.{InSomeTask}
 use Rattle.impose_laws.proofs.KnownNonzero.{known_nonzero, with_nonzero_points}
 
@@ -35,11 +35,8 @@ module _ (p n w : ℕ) (prime : IsPrime p) (r : Tables) (domain : IsFiniteDomain
   -- for the leads from a place on
   pub lead_case_or_none : (before later ms : List Polynomial) (j : ℕ) → ls ≡ before ++ later → j ≡ suc (length before) → ms ≡ with_all_nonzero p ns before → AreNonZero r xs ms → ArePolynomials p n later → AllByRecursion (λ l. l ≢ []) later → InSomeTask r xs (map (child_lead p n w chain rest ns f ls) (unknown_from p ms j later)) ⊎ AreNonZero r xs later
   lead_case_or_none before [] ms j e at same nonzero are some = inr tt
-  lead_case_or_none before (l ∷ later) ms j e at same nonzero are some = go (zero_or_not r xs l) (is_known_nonzero p ms l) refl (λ h. lead_case_or_none (before ++ l ∷ []) later (with_nonzero p ms l) (suc j) (e ∙ sym (append_assoc before (l ∷ []) later)) (one_more j at) (ap (λ x. with_nonzero p x l) same ∙ sym (with_all-one_more p ns before l)) (with_nonzero_points p n prime r domain xs point ms l are.0 nonzero h) are.1 some.1)
+  lead_case_or_none before (l ∷ later) ms j e at same nonzero are some = go (zero_or_not r xs l) (is_known_nonzero p ms l) refl (λ h. lead_case_or_none (before ++ l ∷ []) later (with_nonzero p ms l) (suc j) (e ∙ sym (append_assoc before (l ∷ []) later)) (next_place before l j at) (ap (λ x. with_nonzero p x l) same ∙ sym (with_all-one_more p ns before l)) (with_nonzero_points p n prime r domain xs point ms l are.0 nonzero h) are.1 some.1)
     where
-      one_more : (j : ℕ) → j ≡ suc (length before) → suc j ≡ suc (length (before ++ l ∷ []))
-      one_more j at = let longer = length-append before (l ∷ []) in omega arith
-
       further : List ℕ
       further = unknown_from p (with_nonzero p ms l) (suc j) later
 

@@ -61,7 +61,7 @@ module _ (p n : ℕ) (prime : IsPrime p) where
 
     -- the rows are canonical
     pub rows_canonical : AreRemainderRows p n rows
-    rows_canonical = AreRemainderRows-remainder_rows p n prime.many w v (plains chain) (plain t) (plain c) (plains_canonical p n prime.many chain start.canonical_chain) (start.canonical_t, tt) (start.canonical_c, tt)
+    rows_canonical = AreRemainderRows-remainder_rows p n prime.many w v (plains chain) (plain t) (plain c) (plains_canonical p n chain start.canonical_chain) (start.canonical_t, tt) (start.canonical_c, tt)
 
     -- none of them but the zero row is 0
     pub rows_nonzero : EachRow (λ h. h.first ≢ []) rows.later

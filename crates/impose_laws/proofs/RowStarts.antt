@@ -7,8 +7,8 @@ use Rattle.polynomials.specs.Views.{degree_in, main_var}
 use Rattle.polynomials.proofs.PolynomialRing.{CanonicalPolynomial}
 use Rattle.polynomials.proofs.MainVariables.{free_above_main_var}
 use Rattle.polynomials.proofs.ExponentsBelow.{ExponentsBelow, ExponentsBelow-one, ExponentsBelow-more, ExponentsBelow-degree}
-use Rattle.zero_sets.specs.ZeroSets.{IsTriangularFrom, IsTriangular}
-use Rattle.impose_rules.proofs.ChainParts.{HasMainBelow}
+use Rattle.zero_sets.specs.ZeroSets.{IsTriangular}
+use Rattle.impose_rules.proofs.ChainParts.{HasMainBelow, triangular_plains}
 use Rattle.division_rules.specs.Rows.{Row, plain, plains}
 use Rattle.division_rules.specs.Lists.{variable_or_zero}
 use Rattle.division_rules.specs.Chains.{EachRow, IsReduced, IsFree}
@@ -31,11 +31,6 @@ pub record IsStart (p n v : ℕ) (chain : List Polynomial) (t c : Polynomial) : 
   pub reduced : AllByRecursion (λ u. HasLessDegree c (plain u)) chain
   pub occurs : 1 ≤ degree_in v c
   pub falls : degree_in v c < degree_in v t
-
--- a triangular set, as rows
-pub triangular_rows : (v : ℕ) (chain : List Polynomial) → IsTriangularFrom v chain → AreTriangularFrom v (plains chain)
-triangular_rows v [] h = tt
-triangular_rows v (t ∷ chain) h = (h.0, h.1, h.2, triangular_rows (suc h.0) chain h.3)
 
 module _ (p n : ℕ) (prime : IsPrime p) where
   abbrev pub P : ViewedRing (CanonicalPolynomial p n)
@@ -77,7 +72,7 @@ module _ (p n : ℕ) (prime : IsPrime p) where
     -- the chain lies below v
     pub start_base : IsBase P.ring P.views P.laws v below_rows
     start_base = record {
-      increasing = chain_from_triangular p n prime 0 below_rows (subst (AreTriangularFrom 0) (sym (down-lifted chain start.canonical_chain)) (triangular_rows 0 chain start.triangular));
+      increasing = chain_from_triangular p n prime 0 below_rows (subst (AreTriangularFrom 0) (sym (down-lifted chain start.canonical_chain)) (triangular_plains 0 chain start.triangular));
       apart = apart_from v v (omega arith) chain start.canonical_chain start.below;
       free = free_of v v (omega arith) chain start.canonical_chain start.below;
     }

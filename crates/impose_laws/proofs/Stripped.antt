@@ -39,7 +39,7 @@ module _ (p n w : ℕ) (prime : IsPrime p) (bs : List Polynomial) (are : ArePoly
       step b x q y member varies ib j e h some =
           let adds = quotient_within_degree p n w x b q prime j ib e some v in
           let same = h (quotient_within_nonzero p n w x b q prime j ib e some) in
-          let none = each_member (IsFreeOf v) bs free b member in
+          let none = each_member (IsFreeOf v) bs b free member in
           omega arith
 
   -- so where v is the main variable it stays that

@@ -29,7 +29,7 @@ module _ (p n w : ℕ) (prime : IsPrime p) (r : Tables) (domain : IsFiniteDomain
       step : (b x q y : Polynomial) → Contains bs b → is_constant b ≡ false → IsPolynomial p n b → IsPolynomial p n x → quotient_within p w x b ≡ Some q → (value_at r xs q ≡ r.nil → value_at r xs y ≡ r.nil) → value_at r xs x ≡ r.nil → value_at r xs y ≡ r.nil
       step b x q y member varies ib j e h zero_x = elim (product_zero p r domain xs point q b (ap (value_at r xs) (quotient_within_exact p w x b q e) ∙ zero_x)) [
         | inl zero_q ↦ h zero_q
-        | inr zero_b ↦ absurd (each_member (λ f. value_at r xs f ≢ r.nil) bs (each_nonzero r xs bs nonzero) b member zero_b)
+        | inr zero_b ↦ absurd (each_member (λ f. value_at r xs f ≢ r.nil) bs b (each_nonzero r xs bs nonzero) member zero_b)
       ]
 
   -- and its lead is not zero where that of f isn't

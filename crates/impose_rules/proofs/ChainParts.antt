@@ -5,6 +5,9 @@ use Rattle.std.specs.List.{AllByRecursion}
 use Rattle.polynomials.specs.Polynomials.{Polynomial, IsPolynomial, ArePolynomials}
 use Rattle.polynomials.specs.Views.{main_var}
 use Rattle.zero_sets.specs.ZeroSets.{IsTriangularFrom, IsTriangular, is_variable, member_in, is_variable_below, members_below}
+use Rattle.zero_sets.proofs.TriangularSets.{triangular_sooner, below_triangular}
+use Rattle.division_rules.specs.Rows.{plains}
+use Rattle.division_rules.specs.Triangular.{AreTriangularFrom}
 use Rattle.division_rules.proofs.Steps.{choose}
 use Rattle.impose_rules.specs.Chains.{is_variable_above, members_above, with_member}
 use Rattle.impose_rules.proofs.Lists.{each_appended}
@@ -45,17 +48,12 @@ below_are_below v (t ∷ chain) = choose (AllByRecursion (HasMainBelow v)) (is_v
     is_below None e d = cc
     is_below (Some u) e d = (u, e, ltb-true u v d)
 
--- a triangular set starts at any lesser variable
-pub triangular_sooner : (u v : ℕ) (chain : List Polynomial) → u ≤ v → IsTriangularFrom v chain → IsTriangularFrom u chain
-triangular_sooner u v [] up h = tt
-triangular_sooner u v (t ∷ chain) up h = let from = h.2 in (h.0, h.1, omega arith, h.3)
+-- a triangular set, as rows
+pub triangular_plains : (v : ℕ) (chain : List Polynomial) → IsTriangularFrom v chain → AreTriangularFrom v (plains chain)
+triangular_plains v [] h = tt
+triangular_plains v (t ∷ chain) h = (h.0, h.1, h.2, triangular_plains (suc h.0) chain h.3)
 
--- those below are triangular
-pub below_triangular : (u v : ℕ) (chain : List Polynomial) → IsTriangularFrom u chain → IsTriangularFrom u (members_below v chain)
-below_triangular u v [] h = tt
-below_triangular u v (t ∷ chain) h = choose (IsTriangularFrom u) (is_variable_below v (main_var t)) (t ∷ members_below v chain) (members_below v chain) (λ e. (h.0, h.1, h.2, below_triangular (suc h.0) v chain h.3)) (λ e. below_triangular u v chain (triangular_sooner u (suc h.0) chain (let from = h.2 in omega arith) h.3))
-
--- so are those above
+-- those above are triangular
 pub above_triangular : (u v : ℕ) (chain : List Polynomial) → IsTriangularFrom u chain → IsTriangularFrom u (members_above v chain)
 above_triangular u v [] h = tt
 above_triangular u v (t ∷ chain) h = choose (IsTriangularFrom u) (is_variable_above v (main_var t)) (t ∷ members_above v chain) (members_above v chain) (λ e. (h.0, h.1, h.2, above_triangular (suc h.0) v chain h.3)) (λ e. above_triangular u v chain (triangular_sooner u (suc h.0) chain (let from = h.2 in omega arith) h.3))

@@ -1,5 +1,5 @@
 -- Places in a list of leads, and the leads before a place.
-use Rattle.std.proofs.Common.{◌≡◌, ℕ, suc, ◌-◌, List, [], ◌∷◌, ◌++◌, take, get_or, length, refl, ap₂, ◌∙◌, arith}
+use Rattle.std.proofs.Common.{◌≡◌, ℕ, suc, ◌-◌, List, [], ◌∷◌, ◌++◌, take, get_or, length, refl, ap₂, ◌∙◌, arith, length-append}
 use Rattle.std.proofs.Math.Seq.{get_or-append_seam, take-append_seam}
 use Rattle.polynomials.specs.Polynomials.{Polynomial}
 use Rattle.zero_sets.specs.Tasks.{with_nonzero}
@@ -11,6 +11,10 @@ place_of ls before l later j e at = (ap₂ (λ k x. get_or x k []) (one_less j a
   where
     one_less : (i : ℕ) → i ≡ suc (length before) → i - 1 ≡ length before
     one_less i at = omega arith
+
+-- the next place is behind one more
+pub next_place : (before : List Polynomial) (l : Polynomial) (j : ℕ) → j ≡ suc (length before) → suc j ≡ suc (length (before ++ l ∷ []))
+next_place before l j at = let longer = length-append before (l ∷ []) in omega arith
 
 -- several and then one more that don't vanish
 pub with_all-one_more : (p : ℕ) (ns before : List Polynomial) (l : Polynomial) → with_all_nonzero p ns (before ++ l ∷ []) ≡ with_nonzero p (with_all_nonzero p ns before) l

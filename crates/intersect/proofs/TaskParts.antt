@@ -4,15 +4,11 @@ use Rattle.polynomials.specs.Primes.{IsPrime}
 use Rattle.polynomials.specs.Polynomials.{Polynomial, IsPolynomial, ArePolynomials, monic}
 use Rattle.polynomials.specs.Views.{main_var}
 use Rattle.polynomials.proofs.MonicLemmas.{IsPolynomial-monic}
+use Rattle.polynomials.proofs.PolynomialLists.{ArePolynomials-push}
 use Rattle.zero_sets.specs.Tasks.{is_known_nonzero, with_nonzero}
 use Rattle.impose_rules.specs.Chains.{with_member}
 use Rattle.impose_rules.proofs.ChainParts.{each_canonical, canonical_each, each_with_member}
 use Rattle.chains.specs.Members.{with_member_at, with_polynomial}
-
--- at the end of a list
-pub polynomial_added : (p n : ℕ) (fs : List Polynomial) (f : Polynomial) → ArePolynomials p n fs → IsPolynomial p n f → ArePolynomials p n (fs ++ f ∷ [])
-polynomial_added p n [] f are i = (i, tt)
-polynomial_added p n (g ∷ fs) f are i = (are.0, polynomial_added p n fs f are.1 i)
 
 -- in a chain
 pub member_added : (p n : ℕ) (t : Polynomial) (chain : List Polynomial) → ArePolynomials p n chain → IsPolynomial p n t → ArePolynomials p n (with_polynomial t chain)
@@ -28,4 +24,4 @@ nonzero_added p n prime ns h are i = go (is_known_nonzero p ns h)
   where
     go : (b : Bool) → ArePolynomials p n (elim b as (λ _. List Polynomial) [ true ↦ ns | false ↦ ns ++ monic p h ∷ [] ])
     go true = are
-    go false = polynomial_added p n ns (monic p h) are (IsPolynomial-monic p n h prime i)
+    go false = ArePolynomials-push p n ns (monic p h) are (IsPolynomial-monic p n h prime i)

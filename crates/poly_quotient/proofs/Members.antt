@@ -1,36 +1,13 @@
 -- Division by the members of a list in turn.
-use Rattle.std.proofs.Common.{◌≡◌, ◌≢◌, ℕ, zero, suc, ◌+◌, ◌≤◌, Bool, true, false, List, [], ◌∷◌, length, drop, Some, None, refl, sym, ap, ◌∙◌, subst, arith}
+use Rattle.std.proofs.Common.{◌≡◌, ◌≢◌, ℕ, zero, suc, ◌+◌, ◌≤◌, Bool, true, false, List, [], ◌∷◌, length, drop, Some, None, refl, sym, ap, ◌∙◌}
 use Rattle.std.specs.Prelude.{slice_get}
 use Rattle.std.proofs.Math.ListN.{drop_of_length-le}
-use Rattle.polynomials.specs.Polynomials.{Polynomial, IsPolynomial, ArePolynomials}
+use Rattle.polynomials.specs.Polynomials.{Polynomial}
 use Rattle.polynomials.specs.Views.{is_constant}
+use Rattle.item_lists.proofs.Places.{drop_at}
 use Rattle.division_rules.specs.Quotients.{without_factor, factor_bound, without_factors}
 use Rattle.division_rules.proofs.Quotients.{quotient_within_of_zero}
 use Rattle.poly_quotient.proofs.Removals.{varies_nonzero}
-
--- what isn't true is false
-pub not_true : (x : Bool) → (x ≡ true → ⊥) → x ≡ false
-not_true true h = absurd (h refl)
-not_true false h = refl
-
--- from a place on its item comes first
-drop_got : {X : Type 0} (xs : List X) (i : ℕ) (x : X) → slice_get xs i ≡ Some x → drop i xs ≡ x ∷ drop (i + 1) xs
-drop_got [] i x e = cc
-drop_got (y ∷ xs) zero x e =
-    let same : y ≡ x = cc in
-    ap (λ z. z ∷ xs) same
-drop_got (y ∷ xs) (suc i) x e = drop_got xs i x e ∙ ap (λ k. x ∷ drop k (y ∷ xs)) (later i)
-  where
-    later : (k : ℕ) → suc (k + 1) ≡ suc k + 1
-    later k = omega arith
-
--- the item of a list of canonical polynomials is one
-pub IsPolynomial-got : (p n : ℕ) (bs : List Polynomial) (i : ℕ) (b : Polynomial) → ArePolynomials p n bs → slice_get bs i ≡ Some b → IsPolynomial p n b
-IsPolynomial-got p n [] i b are e = cc
-IsPolynomial-got p n (c ∷ bs) zero b are e =
-    let same : c ≡ b = cc in
-    subst (IsPolynomial p n) same are.0
-IsPolynomial-got p n (c ∷ bs) (suc i) b are e = IsPolynomial-got p n bs i b are.1 e
 
 module _ (p w : ℕ) where
   -- 0 stays
@@ -49,7 +26,7 @@ module _ (p w : ℕ) where
   module _ (list : List Polynomial) (i : ℕ) (b left all : Polynomial) (at : slice_get list i ≡ Some b) where
     -- the first member that is left
     from_member : (c : Bool) → is_constant b ≡ c → without_factors p w (drop i list) left ≡ elim c as (λ _. Polynomial) [ true ↦ without_factors p w (drop (i + 1) list) left | false ↦ without_factors p w (drop (i + 1) list) (without_factor p w b (factor_bound left) left) ]
-    from_member c e = ap (λ l. without_factors p w l left) (drop_got list i b at) ∙ ap (λ d. elim d as (λ _. Polynomial) [ true ↦ without_factors p w (drop (i + 1) list) left | false ↦ without_factors p w (drop (i + 1) list) (without_factor p w b (factor_bound left) left) ]) e
+    from_member c e = ap (λ l. without_factors p w l left) (drop_at list i b at) ∙ ap (λ d. elim d as (λ _. Polynomial) [ true ↦ without_factors p w (drop (i + 1) list) left | false ↦ without_factors p w (drop (i + 1) list) (without_factor p w b (factor_bound left) left) ]) e
 
     -- a constant member is passed over
     pub member_passed : is_constant b ≡ true → without_factors p w (drop i list) left ≡ all → without_factors p w (drop (i + 1) list) left ≡ all

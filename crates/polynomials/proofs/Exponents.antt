@@ -55,14 +55,15 @@ power_monomial n v e = set (replicate n 0) v e
 pub exponent_of-power_monomial : (n v e : ℕ) → v < n → exponent_of v (power_monomial n v e) ≡ e
 exponent_of-power_monomial n v e h = get_or-set_same (replicate n 0) v e 0 (omega (arith, length-replicate {A = ℕ} n 0))
 
+-- nothing occurs in zeros
+pub exponent_of-replicate : (n w : ℕ) → exponent_of w (replicate n 0) ≡ 0
+exponent_of-replicate zero w = refl
+exponent_of-replicate (suc n) zero = refl
+exponent_of-replicate (suc n) (suc w) = exponent_of-replicate n w
+
 -- no other variable occurs in it
 pub exponent_of-power_monomial_other : (n v w e : ℕ) → w ≢ v → exponent_of w (power_monomial n v e) ≡ 0
 exponent_of-power_monomial_other n v w e h = get_or-set_other (replicate n 0) v w e 0 h ∙ exponent_of-replicate n w
-  where
-    exponent_of-replicate : (n w : ℕ) → exponent_of w (replicate n 0) ≡ 0
-    exponent_of-replicate zero w = refl
-    exponent_of-replicate (suc n) zero = refl
-    exponent_of-replicate (suc n) (suc w) = exponent_of-replicate n w
 
 -- a monomial is itself without v, times its power of v
 pub set-times_power : (n v e : ℕ) (m : Monomial) → length m ≡ n → v < n → exponent_of v m ≡ e → monomial_product (set m v 0) (power_monomial n v e) ≡ m

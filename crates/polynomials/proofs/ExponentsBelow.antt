@@ -7,7 +7,7 @@ use Rattle.polynomials.specs.Monomials.{exponent_of}
 use Rattle.polynomials.specs.Polynomials.{term, Polynomial, IsPolynomial, sum_of, product_of, negative_of, difference_of, one_of, variable_power}
 use Rattle.polynomials.specs.Views.{degree_in, coefficient_in, without_power, IsFreeOf}
 use Rattle.polynomials.proofs.Monomialwise.{EachMonomial, EachMonomial-implied, EachMonomial-sum_of, EachMonomial-negative_of, EachMonomial-product_of}
-use Rattle.polynomials.proofs.Exponents.{exponent_of-product, exponent_of-power_monomial, exponent_of-power_monomial_other}
+use Rattle.polynomials.proofs.Exponents.{exponent_of-product, exponent_of-power_monomial, exponent_of-power_monomial_other, exponent_of-replicate}
 use Rattle.polynomials.proofs.Coefficients.{EachMonomial-coefficient_in, EachMonomial-without_power}
 use Rattle.polynomials.proofs.CoefficientsOfOperations.{AddOnlyAs, coefficient_in-product_by}
 use Rattle.polynomials.proofs.Degrees.{DegreeAtMost-from_degree, degree_in-from_bound, coefficient_in_above, absent_power, exponent_of-set-le, coefficient_in_itself}
@@ -42,6 +42,13 @@ module _ (v : ℕ) where
   -- and the other way round
   pub degree_in-from_ExponentsBelow : (d : ℕ) (f : Polynomial) → ExponentsBelow v (suc d) f → degree_in v f ≤ d
   degree_in-from_ExponentsBelow d f h = degree_in-from_bound v d f (EachMonomial-implied (λ m. exponent_of v m < suc d) (λ m. exponent_of v m ≤ d) (λ m i. omega arith) f h)
+
+  -- from a bound that isn't 0, the degree is less
+  pub degree_in-less : (d : ℕ) (f : Polynomial) → 0 < d → ExponentsBelow v d f → degree_in v f < d
+  degree_in-less zero f some h = absurd (omega arith)
+  degree_in-less (suc d) f some h =
+      let bound = degree_in-from_ExponentsBelow d f h in
+      omega arith
 
   -- without v, each is less than 1
   pub ExponentsBelow-one : (f : Polynomial) → ExponentsBelow v 1 f ↔ IsFreeOf v f
@@ -121,17 +128,12 @@ past_variables zero v e up = refl
 past_variables (suc n) zero e up = absurd (omega arith)
 past_variables (suc n) (suc v) e up = ap (λ m. 0 ∷ m) (past_variables n v e (omega arith))
 
-exponent_of-zeros : (n w : ℕ) → exponent_of w (replicate n 0) ≡ 0
-exponent_of-zeros zero w = refl
-exponent_of-zeros (suc n) zero = refl
-exponent_of-zeros (suc n) (suc w) = exponent_of-zeros n w
-
 -- the exponent of a power of v, whether or not v is a variable
 pub ExponentsBelow-variable_power : (n v k : ℕ) → ExponentsBelow v (suc k) (variable_power n v k)
 ExponentsBelow-variable_power n v k = (
   elim (cases_lt v n) [
     | inl below ↦ let exponent = exponent_of-power_monomial n v k below in omega arith
-    | inr past ↦ let exponent = ap (exponent_of v) (past_variables n v k past) ∙ exponent_of-zeros n v in omega arith
+    | inr past ↦ let exponent = ap (exponent_of v) (past_variables n v k past) ∙ exponent_of-replicate n v in omega arith
   ],
   tt,
 )

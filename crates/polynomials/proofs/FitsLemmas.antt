@@ -1,6 +1,7 @@
 -- What it is to fit a width.
 use Rattle.std.proofs.Common.{◌≡◌, ◌⊎◌, ◌↔◌, ℕ, zero, suc, ◌+◌, ◌*◌, ◌≤◌, max, Bool, true, false, ◌&&◌, leb, [], ◌∷◌, length, Some, None, Option, refl, sym, ap, ◌∙◌, subst, inl, inr, add_comm, mul_comm, mul-le-mul, le_trans, arith}
 use Rattle.std.proofs.lemmas.Bool.{and_parts, and_from, leb-true, le-leb}
+use Rattle.std.proofs.lemmas.Option.{same_Some}
 use Rattle.polynomials.specs.Monomials.{Monomial, exponent_of, monomial_product}
 use Rattle.polynomials.specs.Polynomials.{Polynomial, product_of}
 use Rattle.polynomials.specs.Views.{degree_in}
@@ -14,6 +15,11 @@ exponent_of-greater v [] m = omega arith
 exponent_of-greater v (d ∷ l) [] = omega arith
 exponent_of-greater zero (d ∷ l) (e ∷ m) = refl
 exponent_of-greater (suc v) (d ∷ l) (e ∷ m) = exponent_of-greater v l m
+
+-- those of a monomial and of none are its own
+pub greater_exponents-nil : (m : Monomial) → greater_exponents m [] ≡ m
+greater_exponents-nil [] = refl
+greater_exponents-nil (d ∷ m) = refl
 
 -- the list of degrees has the degree in each variable
 pub exponent_of-degrees : (v : ℕ) (f : Polynomial) → exponent_of v (degrees f) ≡ degree_in v f
@@ -61,13 +67,14 @@ fits_in_each_variable w (t ∷ f) (u ∷ g) = ((λ h. inr (inr ((both_ways w (t 
     back (inr (inl e)) = cc
     back (inr (inr h)) = (both_ways w (t ∷ f) (u ∷ g)).1 h
 
-product_if : (b : Bool) (h g : Polynomial) → elim b as (λ _. Option Polynomial) [ true ↦ Some h | false ↦ None ] ≡ Some g → (b ≡ true) × (h ≡ g)
-product_if true h g e = (refl, cc)
-product_if false h g e = cc
+-- what a test lets through
+pub passes_test : (b : Bool) (f g : Polynomial) → elim b as (λ _. Option Polynomial) [ true ↦ Some f | false ↦ None ] ≡ Some g → (b ≡ true) × (f ≡ g)
+passes_test true f g e = (refl, same_Some f g e)
+passes_test false f g e = cc
 
 -- a product within a width is the product, and fits
 pub product_within_is : (p w : ℕ) (f g h : Polynomial) → product_within p w f g ≡ Some h → (fits w f g ≡ true) × (product_of p f g ≡ h)
-product_within_is p w f g h e = product_if (fits w f g) (product_of p f g) h e
+product_within_is p w f g h e = passes_test (fits w f g) (product_of p f g) h e
 
 -- and the product of what fits is within
 pub product_within_from_fits : (p w : ℕ) (f g : Polynomial) → fits w f g ≡ true → product_within p w f g ≡ Some (product_of p f g)

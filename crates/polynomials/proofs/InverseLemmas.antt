@@ -77,14 +77,15 @@ pub inverse_of_unique : (p a b : ℕ) → IsPrime p → 0 < a → a < p → b < 
 inverse_of_unique p a b prime pos below small e =
     inverse_unique p a b (inverse_of p a) (small, e) (inverse_of_is p a prime pos below)
 
+-- multiples of 0 are 0
+pub mod-zero : (p c : ℕ) → c * 0 % p ≡ 0
+mod-zero p c = omega arith
+
 -- a factor with an inverse leaves the other factor 0
 other_factor : (p a b c : ℕ) → a * c % p ≡ 1 → a * b % p ≡ 0 → b % p ≡ 0
 other_factor p a b c one product =
     let turned : b * (a * c) ≡ c * (a * b) = grind arith in
     sym (times_one p b (a * c) one) ∙ ap (λ x. x % p) turned ∙ sym (mul-mod_second c (a * b) p) ∙ ap (λ y. c * y % p) product ∙ mod-zero p c
-  where
-    mod-zero : (p c : ℕ) → c * 0 % p ≡ 0
-    mod-zero p c = omega arith
 
 -- a prime that divides a product divides a factor
 pub prime_divides_a_factor : (p a b : ℕ) → IsPrime p → a * b % p ≡ 0 → (a % p ≡ 0) ⊎ (b % p ≡ 0)

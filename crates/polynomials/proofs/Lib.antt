@@ -7,6 +7,7 @@ pub mod Values
 pub mod Residues
 pub mod Monomialwise
 pub mod Canonical
+pub mod PolynomialLists
 pub mod SamePolynomials
 pub mod PolynomialLaws
 pub mod PolynomialRing

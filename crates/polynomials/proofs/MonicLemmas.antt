@@ -1,25 +1,20 @@
 -- Multiples by a residue, and monic polynomials.
-use Rattle.std.proofs.Common.{◌≡◌, ◌≢◌, ◌↔◌, ℕ, zero, suc, ◌*◌, ◌%◌, ◌<◌, List, [], ◌∷◌, refl, sym, ap, ap₂, ◌∙◌, inl, inr, mod-lt, mod-eq_of_lt, mul_comm, mul_assoc, one-mul, mul-zero, arith}
+use Rattle.std.proofs.Common.{◌≡◌, ◌≢◌, ◌↔◌, ℕ, zero, suc, ◌*◌, ◌%◌, ◌<◌, List, [], ◌∷◌, refl, sym, ap, ap₂, ◌∙◌, inl, inr, mod-lt, mod-eq_of_lt, mul_comm, mul_assoc, one-mul, arith}
 use Rattle.std.proofs.lemmas.Nat.{mul-mod_first, mul-mod_second}
-use native.Mathlib.Nat.{zero-mod}
 use Rattle.polynomials.specs.Primes.{IsPrime, IsInverse, inverse_of}
 use Rattle.polynomials.specs.Monomials.{Monomial}
 use Rattle.polynomials.specs.Polynomials.{Term, term, Polynomial, StartsBelow, IsPolynomial, scaled, monic, constant_of}
 use Rattle.polynomials.specs.Rings.{Ring, HasCharacteristic, natural_in, value}
 use Rattle.polynomials.specs.Laws.{MonicIsMonic}
-use Rattle.polynomials.proofs.InverseLemmas.{inverse_of_is, prime_divides_a_factor}
+use Rattle.polynomials.proofs.InverseLemmas.{inverse_of_is, prime_divides_a_factor, mod-zero}
 use Rattle.polynomials.proofs.RingLaws.{times-nil, one-times, times_assoc}
 use Rattle.polynomials.proofs.NaturalsInRings.{natural_in-mod, natural_in-mul, natural_in-one, natural_in-nonzero}
 use Rattle.polynomials.proofs.Values.{value-scaled, value-constant_of}
 
--- 0 has no inverse
-zero_without_inverse : (p a : ℕ) → a * 0 % p ≡ 0
-zero_without_inverse p a = ap (λ x. x % p) (mul-zero a) ∙ zero-mod p
-
 -- an inverse isn't 0
 pub inverse_positive : (p a b : ℕ) → IsInverse p a b → 0 < b
 inverse_positive p a zero inverse =
-    let none = sym (zero_without_inverse p a) ∙ inverse.1 in
+    let none = sym (mod-zero p a) ∙ inverse.1 in
     absurd (omega arith)
 inverse_positive p a (suc b) inverse = omega arith
 

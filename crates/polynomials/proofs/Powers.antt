@@ -1,5 +1,6 @@
 -- Powers of polynomials.
 use Rattle.std.proofs.Common.{◌≡◌, ◌≢◌, ℕ, zero, suc, ◌<◌, List, [], Option, Some, None, refl, sym, ap, ◌∙◌, arith}
+use Rattle.std.proofs.lemmas.Option.{same_Some}
 use Rattle.polynomials.specs.Primes.{IsPrime}
 use Rattle.polynomials.specs.Polynomials.{Polynomial, IsPolynomial, product_of, one_of}
 use Rattle.polynomials.specs.Views.{IsFreeOf}
@@ -64,13 +65,10 @@ product_so_far_is : (p w : ℕ) (f h : Polynomial) (o : Option Polynomial) → p
 product_so_far_is p w f h None e = cc
 product_so_far_is p w f h (Some g) e = (g, refl, (product_within_is p w g f h e).1)
 
-some_same : (f g : Polynomial) → Some f ≡ Some g → g ≡ f
-some_same f g e = cc
-
 -- a power within a width is the power
 pub power_within_is_power : PowerWithinIsPower
-power_within_is_power p n w zero f g e = some_same (one_of n) g e
-power_within_is_power p n w (suc zero) f g e = some_same f g e
+power_within_is_power p n w zero f g e = sym (same_Some (one_of n) g e)
+power_within_is_power p n w (suc zero) f g e = sym (same_Some f g e)
 power_within_is_power p n w (suc (suc e)) f g h =
     let last = product_so_far_is p w f g (power_within p n w f (suc e)) h in
     sym last.2 ∙ ap (λ x. product_of p x f) (power_within_is_power p n w (suc e) f last.0 last.1)

@@ -1,5 +1,5 @@
 -- The residues modulo p are a commutative ring.
-use Rattle.std.proofs.Common.{◌≡◌, ℕ, zero, suc, ◌+◌, ◌-◌, ◌*◌, ◌%◌, ◌<◌, sym, ap, ◌∙◌, mod-lt, mod-eq_of_lt, mul_comm, mul_assoc, mul-add, one-mul, arith}
+use Rattle.std.proofs.Common.{◌≡◌, ℕ, zero, suc, ◌+◌, ◌-◌, ◌*◌, ◌%◌, ◌<◌, sym, ap, ◌∙◌, mod-lt, mod-eq_of_lt, mul_comm, mul_assoc, mul-add, one-mul, arith, add_comm}
 use mathlib.Core.HLevel.{Σ_prop_path}
 use native.Mathlib.Bridge.{le_prop}
 use native.Mathlib.Nat.{mod-add-mod, add-mod-mod, add-mod, mod_self}
@@ -26,7 +26,7 @@ residues p positive = record {
   nil = (0, positive);
   one = residue_of p positive 1;
   neg = λ x. residue_of p positive (p - x.0);
-  add_comm = λ x y. residue_path p _ _ (ap (λ n. n % p) (add_swap x.0 y.0));
+  add_comm = λ x y. residue_path p _ _ (ap (λ n. n % p) (add_comm x.0 y.0));
   add_assoc = λ x y z. residue_path p _ _ (mod-add-mod (x.0 + y.0) p z.0 ∙ ap (λ n. n % p) (add_regroup x.0 y.0 z.0) ∙ sym (add-mod-mod x.0 (y.0 + z.0) p));
   nil-add = λ x. residue_path p _ _ (ap (λ n. n % p) (zero_plus x.0) ∙ mod-eq_of_lt x.1);
   neg-add = λ x. residue_path p _ _ (mod-add-mod (p - x.0) p x.0 ∙ ap (λ n. n % p) (back x.0 x.1) ∙ mod_self p);
@@ -36,9 +36,6 @@ residues p positive = record {
   mul-add = λ x y z. residue_path p _ _ (mul-mod_second x.0 (y.0 + z.0) p ∙ ap (λ n. n % p) (mul-add x.0 y.0 z.0) ∙ add-mod (x.0 * y.0) (x.0 * z.0) p);
 }
   where
-    add_swap : (a b : ℕ) → a + b ≡ b + a
-    add_swap a b = omega arith
-
     add_regroup : (a b c : ℕ) → a + b + c ≡ a + (b + c)
     add_regroup a b c = omega arith
 

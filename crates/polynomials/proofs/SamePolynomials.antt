@@ -112,7 +112,4 @@ module _ (p n : ℕ) where
       let above = i.1 in
       let small = i.2 in
       let positive : 0 < p = omega arith in
-      same_from_sums (collected p (t ∷ f)) (t ∷ f) (IsPolynomial-collected p n positive (t ∷ f) (lengths (t ∷ f) i)) i (SameSums-collected p (t ∷ f))
-    where
-      lengths : (f : Polynomial) → IsPolynomial p n f → HaveLength n f
-      lengths = HaveLength-from_IsPolynomial p n
+      same_from_sums (collected p (t ∷ f)) (t ∷ f) (IsPolynomial-collected p n positive (t ∷ f) (HaveLength-from_IsPolynomial p n (t ∷ f) i)) i (SameSums-collected p (t ∷ f))

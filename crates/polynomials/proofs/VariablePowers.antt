@@ -62,11 +62,8 @@ module _ (n v e : ℕ) where
         let degree = degree_in-variable_power below in
         coefficient_in-product_of p n v positive d e f (variable_power n v e) i (IsPolynomial-variable_power p n v e many) bound (omega arith)
         ∙ ap (product_of p (coefficient_in v d f)) (coefficient_in-variable_power below)
-        ∙ product_of_comm p positive n (coefficient_in v d f) (one_of n) (IsPolynomial-coefficient_in v d p n f i) (one_is_polynomial many)
+        ∙ product_of_comm p positive n (coefficient_in v d f) (one_of n) (IsPolynomial-coefficient_in v d p n f i) (IsPolynomial-one_of p n many)
         ∙ one_of-product_of p positive n many (coefficient_in v d f) (IsPolynomial-coefficient_in v d p n f i)
-      where
-        one_is_polynomial : 1 < p → IsPolynomial p n (one_of n)
-        one_is_polynomial = IsPolynomial-one_of p n
 
     -- those of another variable are multiplied
     pub coefficient_in-shifted_other : (w d : ℕ) → w ≢ v → coefficient_in w d (product_of p (variable_power n v e) f) ≡ product_of p (variable_power n v e) (coefficient_in w d f)

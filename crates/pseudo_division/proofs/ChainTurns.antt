@@ -6,6 +6,7 @@ use Rattle.polynomials.specs.Polynomials.{Polynomial}
 use Rattle.polynomials.specs.Views.{degree_in, main_var}
 use Rattle.polynomials.proofs.MainVariables.{degree_in_main_var}
 use Rattle.polynomials.proofs.ExponentsBelow.{degree_in-past}
+use Rattle.item_lists.proofs.Places.{drop_at}
 use Rattle.division_rules.specs.Operations.{Operations}
 use Rattle.division_rules.specs.Rows.{Row}
 use Rattle.division_rules.specs.Chains.{EachRow}
@@ -13,7 +14,6 @@ use Rattle.division_rules.specs.Lists.{variable_or_zero}
 use Rattle.division_rules.specs.PolynomialRows.{IsPolynomialRow, ArePolynomialRows}
 use Rattle.division_rules.specs.Triangular.{AreTriangularFrom}
 use Rattle.division_rules.specs.Within.{and_then, sparse_remainder_within, reduction_within}
-use Rattle.pseudo_division.proofs.Lists.{drop_at}
 
 -- what holds of each row holds of that at a place
 pub EachRow-at : {A : Type 0} (P : Row A → Type 0) (rows : List (Row A)) (i : ℕ) (t : Row A) → EachRow P rows → slice_get rows i ≡ Some t → P t

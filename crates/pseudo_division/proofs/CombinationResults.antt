@@ -1,5 +1,5 @@
 -- What the steps within a width give of combinations is a combination of the same polynomials.
-use Rattle.std.proofs.Common.{◌≡◌, ℕ, suc, List, [], ◌∷◌, length, Option, Some, None, IfSome, refl, sym, ap, ap₂, ◌∙◌, subst}
+use Rattle.std.proofs.Common.{◌≡◌, ℕ, List, [], ◌∷◌, Option, Some, None, IfSome, sym, ap, ap₂, ◌∙◌, subst}
 use Rattle.polynomials.specs.Primes.{IsPrime}
 use Rattle.polynomials.specs.Polynomials.{Polynomial, ArePolynomials}
 use Rattle.polynomials.proofs.PolynomialRing.{CanonicalPolynomial, canonical_path}
@@ -14,7 +14,7 @@ use Rattle.division_rules.proofs.Settings.{ViewedRing, operations}
 use Rattle.division_rules.proofs.PolynomialSetting.{polynomial_setting}
 use Rattle.division_rules.proofs.CanonicalViews.{canonical_operations}
 use Rattle.division_rules.proofs.Down.{terms, terms_all, down, terms-combined, down-elimination, down-pseudo_remainder, down-reduction}
-use Rattle.division_rules.proofs.Up.{up_all, up, up_rows, terms-up_all, down-up, down-up_rows}
+use Rattle.division_rules.proofs.Up.{up_all, up, up_rows, terms-up_all, down-up, down-up_rows, length-up_all}
 use Rattle.division_rules.proofs.Identity.{length-map_by, combination-elimination, combination-pseudo_remainder, combination-reduction}
 use Rattle.division_rules.proofs.WithinLimits.{Gives, gives-elimination, gives-pseudo_remainder, gives-reduction}
 use Rattle.division_rules.proofs.TriangularReductions.{reduction_is_reduced}
@@ -33,10 +33,6 @@ module _ (p n : ℕ) (prime : IsPrime p) where
   abbrev P : ViewedRing (CanonicalPolynomial p n)
   P = polynomial_setting p n prime
 
-  length-up_all : (fs : List Polynomial) (are : ArePolynomials p n fs) → length (up_all p n prime.many fs are) ≡ length fs
-  length-up_all [] are = refl
-  length-up_all (f ∷ fs) are = ap suc (length-up_all fs are.1)
-
   module _ (gs : List Polynomial) (are : ArePolynomials p n gs) where
     abbrev Holds : Row Polynomial → Type 0
     Holds f = IsCombinationOf (list_operations p n) gs f
@@ -47,7 +43,7 @@ module _ (p n : ℕ) (prime : IsPrime p) where
     -- a combination of lists of terms is one of canonical polynomials
     holds_above : (f : Row Polynomial) (i : IsPolynomialRow p n f) → Holds f → HoldsAbove (up p n prime.many f i)
     holds_above f i h = record {
-      one_each = length-up_all f.cofactors i.1 ∙ h.one_each ∙ sym (length-up_all gs are);
+      one_each = length-up_all p n prime.many f.cofactors i.1 ∙ h.one_each ∙ sym (length-up_all p n prime.many gs are);
       identity = canonical_path p n (f.first, i.0) (combined (operations P) (up_all p n prime.many f.cofactors i.1) (up_all p n prime.many gs are))
           (h.identity ∙ sym (terms-combined p n prime.many (up_all p n prime.many f.cofactors i.1) (up_all p n prime.many gs are) ∙ ap₂ (combined (list_operations p n)) (terms-up_all p n prime.many f.cofactors i.1) (terms-up_all p n prime.many gs are)));
     }
@@ -55,7 +51,7 @@ module _ (p n : ℕ) (prime : IsPrime p) where
     -- and the other way round
     holds_below : (f : Row (CanonicalPolynomial p n)) → HoldsAbove f → Holds (down p n prime.many f)
     holds_below f h = record {
-      one_each = length-map_by (terms p n prime.many) f.cofactors ∙ h.one_each ∙ length-up_all gs are;
+      one_each = length-map_by (terms p n prime.many) f.cofactors ∙ h.one_each ∙ length-up_all p n prime.many gs are;
       identity = ap (terms p n prime.many) h.identity ∙ terms-combined p n prime.many f.cofactors (up_all p n prime.many gs are) ∙ ap (combined (list_operations p n) (terms_all p n prime.many f.cofactors)) (terms-up_all p n prime.many gs are);
     }
 

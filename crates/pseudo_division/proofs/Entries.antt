@@ -1,9 +1,10 @@
 -- Differences and products of each entry, from the first on.
 use Rattle.std.proofs.Common.{◌≡◌, ◌+◌, ℕ, List, [], ◌∷◌, ◌++◌, drop, Some, None, ap, ap₂, ◌∙◌}
 use Rattle.std.specs.List.{slice_get}
+use Rattle.item_lists.proofs.Places.{drop_at}
 use Rattle.division_rules.specs.Operations.{Operations}
 use Rattle.division_rules.specs.Within.{and_then, times_within, cross_within, cross_all_within, times_all_within}
-use Rattle.pseudo_division.proofs.Lists.{drop_at, in_front, IsMade, made_more, made_none}
+use Rattle.pseudo_division.proofs.Lists.{in_front, IsMade, made_more, made_none}
 
 module _ {A : Type 0} (o : Operations A) (w : ℕ) (l : A) (cs : List A) (i : ℕ) (c : A) (at_c : slice_get cs i ≡ Some c) (made : List A) where
   -- what is to come of products begins with that of the entry at i

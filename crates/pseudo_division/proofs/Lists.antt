@@ -1,26 +1,9 @@
 -- Lists that are made entry by entry, and end where an entry isn't there.
-use Rattle.std.proofs.Common.{◌≡◌, ◌+◌, ℕ, zero, suc, List, [], ◌∷◌, ◌++◌, drop, Option, Some, None, refl, sym, ap, ◌∙◌, append_assoc, append-nil, subst, arith}
+use Rattle.std.proofs.Common.{◌≡◌, ◌+◌, ℕ, List, [], ◌∷◌, ◌++◌, drop, Option, Some, None, refl, sym, ap, ◌∙◌, append_assoc, append-nil}
 use Rattle.std.specs.List.{slice_get}
-use Rattle.polynomials.specs.Polynomials.{Polynomial, IsPolynomial, ArePolynomials}
+pub use Rattle.item_lists.proofs.Places.{drop_at}
+pub use Rattle.polynomials.proofs.PolynomialLists.{IsPolynomial-at}
 use Rattle.division_rules.specs.Within.{and_then}
-
--- from the place of an item on, it comes first
-pub drop_at : {X : Type 0} (xs : List X) (i : ℕ) (x : X) → slice_get xs i ≡ Some x → drop i xs ≡ x ∷ drop (i + 1) xs
-drop_at xs i x e = go xs i x e ∙ ap (λ j. x ∷ drop j xs) (one_later i)
-  where
-    one_later : (k : ℕ) → suc k ≡ k + 1
-    one_later k = omega arith
-
-    go : {X : Type 0} (xs : List X) (i : ℕ) (x : X) → slice_get xs i ≡ Some x → drop i xs ≡ x ∷ drop (suc i) xs
-    go [] i x e = cc
-    go (y ∷ xs) zero x e = cc
-    go (y ∷ xs) (suc i) x e = go xs i x e
-
--- each of canonical polynomials is one
-pub IsPolynomial-at : (p n : ℕ) (fs : List Polynomial) (i : ℕ) (f : Polynomial) → ArePolynomials p n fs → slice_get fs i ≡ Some f → IsPolynomial p n f
-IsPolynomial-at p n [] i f are e = cc
-IsPolynomial-at p n (g ∷ fs) zero f are e = let same : g ≡ f = cc in subst (IsPolynomial p n) same are.0
-IsPolynomial-at p n (g ∷ fs) (suc i) f are e = IsPolynomial-at p n fs i f are.1 e
 
 module _ {A : Type 0} where
   -- an entry and the later ones, where there are all of them

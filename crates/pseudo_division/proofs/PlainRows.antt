@@ -7,15 +7,10 @@ use Rattle.division_rules.specs.Operations.{Operations}
 use Rattle.division_rules.specs.Rows.{Row, plain, plains, is_reduced_by}
 use Rattle.division_rules.specs.Chains.{EachRow}
 use Rattle.division_rules.specs.Lists.{list_operations}
-use Rattle.division_rules.specs.PolynomialRows.{ArePolynomialRows}
 use Rattle.division_rules.specs.Triangular.{AreTriangular, HasLessDegree}
 use Rattle.division_rules.specs.Within.{and_then, elimination_within, sparse_remainder_by_within, sparse_remainder_within, reduction_within}
+use Rattle.division_rules.proofs.Up.{plains_canonical}
 use Rattle.pseudo_division.proofs.CombinationResults.{less_than_members}
-
--- they are canonical where the polynomials are
-pub plains_canonical : (p n : ℕ) (fs : List Polynomial) → ArePolynomials p n fs → ArePolynomialRows p n (plains fs)
-plains_canonical p n [] are = tt
-plains_canonical p n (f ∷ fs) are = ((are.0, tt), plains_canonical p n fs are.1)
 
 -- the row at a place is that of the polynomial there
 pub plains-at : (fs : List Polynomial) (i : ℕ) (f : Polynomial) → slice_get fs i ≡ Some f → slice_get (plains fs) i ≡ Some (plain f)

@@ -1,5 +1,5 @@
 -- Turns of remainders, by one more turn at a time.
-use Rattle.std.proofs.Common.{◌≡◌, ◌<◌, ◌+◌, ◌-◌, ℕ, suc, Bool, true, false, Option, Some, refl, sym, ap, ◌∙◌, arith}
+use Rattle.std.proofs.Common.{◌≡◌, ◌<◌, ◌+◌, ◌-◌, ℕ, suc, true, false, Option, Some, sym, ap, ◌∙◌, arith}
 use Rattle.division_rules.specs.Operations.{Operations, lead}
 use Rattle.division_rules.specs.Rows.{Row, is_reduced_by}
 use Rattle.division_rules.specs.Within.{and_then, elimination_within, times_row_within, pseudo_remainder_by_within, sparse_remainder_by_within}
@@ -23,8 +23,3 @@ module _ {A : Type 0} (o : Operations A) (w v : ℕ) (g f : Row A) (n k : ℕ) (
       ap (λ j. sparse_remainder_by_within o w v g j f) (turn_less n k left)
       ∙ ap (λ b. elim b as (λ _. Option (Row A)) [ true ↦ Some f | false ↦ and_then (elimination_within o w v f g) (λ x. sparse_remainder_by_within o w v g (n - (k + 1)) x) ]) more
       ∙ ap (λ y. and_then y (λ x. sparse_remainder_by_within o w v g (n - (k + 1)) x)) (sym is)
-
--- a test that isn't true is false
-pub false_from_not : (b : Bool) → (b ≡ true → ⊥) → b ≡ false
-false_from_not true h = absurd (h refl)
-false_from_not false h = refl

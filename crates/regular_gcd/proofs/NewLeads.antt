@@ -4,9 +4,9 @@ use Rattle.std.specs.List.{slice_get}
 use Rattle.std.proofs.Math.ListN.{drop_of_length-le}
 use Rattle.polynomials.specs.Polynomials.{Polynomial, monic, same_polynomial}
 use Rattle.polynomials.specs.Views.{is_constant}
+use Rattle.item_lists.proofs.Places.{drop_at}
 use Rattle.zero_sets.specs.Tasks.{is_member, is_known_nonzero, with_nonzero}
 use Rattle.impose_rules.specs.Leads.{unknown_from, lead_cases}
-use Rattle.pseudo_division.proofs.Lists.{drop_at}
 
 or_grouped : (a b c : Bool) → (a || (b || c)) ≡ ((a || b) || c)
 or_grouped true b c = refl

@@ -1,17 +1,11 @@
 -- The lines that are to come, from one polynomial to the next.
-use Rattle.std.proofs.Common.{◌≡◌, ◌∙◌, ℕ, zero, suc, ◌+◌, List, [], ◌∷◌, ◌++◌, Some, drop, slice_get, sym, ap, append_assoc, add-one, arith}
-use Rattle.std.proofs.lemmas.Option.{slice_get_past}
+use Rattle.std.proofs.Common.{◌≡◌, ◌∙◌, ℕ, ◌+◌, List, ◌++◌, Some, drop, slice_get, sym, ap, append_assoc}
 use Rattle.std.specs.List.{flat_map}
 use Rattle.std.specs.Prelude.{codes}
 use Rattle.polynomials.specs.Polynomials.{Polynomial}
+use Rattle.item_lists.proofs.Places.{drop_at}
 use Rattle.report_text.specs.Polynomials.{poly_text}
 use Rattle.report_text.specs.Lines.{poly_line}
-
--- an item, and those behind it
-drop-item : (fs : List Polynomial) (i : ℕ) (f : Polynomial) → slice_get fs i ≡ Some f → drop i fs ≡ f ∷ drop (suc i) fs
-drop-item [] i f h = cc (slice_get_past {X = Polynomial} [] i (omega arith))
-drop-item (g ∷ fs) zero f h = let same : g ≡ f = cc in ap (λ x. x ∷ fs) same
-drop-item (g ∷ fs) (suc i) f h = drop-item fs i f h
 
 module _ (names : List (List ℕ)) (fs : List Polynomial) (i : ℕ) (f : Polynomial) (h : slice_get fs i ≡ Some f) where
   -- the line of the next polynomial is written
@@ -22,7 +16,7 @@ module _ (names : List (List ℕ)) (fs : List Polynomial) (i : ℕ) (f : Polynom
   line_turn text begun filled ended all begins fills ends so_far =
       ap (λ x. x ++ flat_map (poly_line names) (drop (i + 1) fs)) line
       ∙ (append_assoc text (poly_line names f) (flat_map (poly_line names) (drop (i + 1) fs))
-      ∙ (ap (λ (x : List Polynomial). text ++ flat_map (poly_line names) x) (sym items) ∙ so_far))
+      ∙ (ap (λ (x : List Polynomial). text ++ flat_map (poly_line names) x) (sym (drop_at fs i f h)) ∙ so_far))
     where
       line : ended ≡ text ++ poly_line names f
       line =
@@ -30,6 +24,3 @@ module _ (names : List (List ℕ)) (fs : List Polynomial) (i : ℕ) (f : Polynom
           ∙ (ap (λ x. x ++ codes "\n") (fills ∙ (ap (λ x. x ++ poly_text names f) begins ∙ append_assoc text (codes "poly ") (poly_text names f)))
           ∙ (append_assoc text (codes "poly " ++ poly_text names f) (codes "\n")
           ∙ ap (λ x. text ++ x) (append_assoc (codes "poly ") (poly_text names f) (codes "\n"))))
-
-      items : drop i fs ≡ f ∷ drop (i + 1) fs
-      items = rw (add-one i) (drop-item fs i f h)

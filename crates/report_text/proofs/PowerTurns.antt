@@ -2,13 +2,10 @@
 use Rattle.std.proofs.Common.{◌≡◌, ◌∙◌, ℕ, zero, suc, ◌+◌, ◌<◌, ◌≤◌, Bool, true, false, List, [], ◌∷◌, ◌++◌, Some, length, drop, slice_get, refl, sym, ap, append_assoc, append-nil, add-one, arith}
 use Rattle.std.proofs.lemmas.Bool.{eq-eqb, ne_eqb}
 use Rattle.std.proofs.lemmas.List.{drop_all}
-use Rattle.std.proofs.lemmas.Option.{slice_get_past}
+use Rattle.std.proofs.lemmas.Option.{slice_get_past, same_Some}
 use Rattle.std.specs.Prelude.{codes}
 use Rattle.polynomials.specs.Monomials.{Monomial, exponent_of}
 use Rattle.report_text.specs.Polynomials.{power_text, power_texts, powers_text}
-
-some_injective : {X : Type 0} (x y : X) → Some x ≡ Some y → x ≡ y
-some_injective x y e = cc
 
 -- no exponent, no power
 pub power_texts-nil : (names : List (List ℕ)) → power_texts names [] ≡ []
@@ -32,7 +29,7 @@ pub power_texts-take : (v : ℕ) (names : List (List ℕ)) (m : Monomial) (name 
 power_texts-take v [] m name h positive = cc (slice_get_past {X = List ℕ} [] v (omega arith))
 power_texts-take v (first ∷ names) [] name h positive = absurd (omega arith)
 power_texts-take zero (first ∷ names) (d ∷ m) name h positive =
-    rw (ne_eqb d 0 (λ e. omega arith)) (ap (λ x. power_text x d ∷ power_texts names m) (some_injective first name h))
+    rw (ne_eqb d 0 (λ e. omega arith)) (ap (λ x. power_text x d ∷ power_texts names m) (same_Some first name h))
 power_texts-take (suc v) (first ∷ names) (d ∷ m) name h positive = power_texts-take v names m name h positive
 
 -- the first of some powers is written, and then the others

@@ -6,12 +6,9 @@ use Rattle.std.proofs.lemmas.List.{length-replicate}
 use Rattle.polynomials.specs.Monomials.{Monomial, monomial_product}
 use Rattle.polynomials.specs.MonomialOrders.{replicate-monomial_product}
 use Rattle.polynomials.specs.Polynomials.{term, with_first, variable_power}
-use Rattle.polynomials.specs.Fits.{greater_exponents, is_exponent_list, product_within, power_within, product_so_far}
+use Rattle.polynomials.specs.Fits.{is_exponent_list, product_within, power_within, product_so_far}
+use Rattle.polynomials.proofs.FitsLemmas.{greater_exponents-nil}
 use Rattle.system_text.specs.Limits.{text_width}
-
-greater_exponents-nil : (m : Monomial) → greater_exponents m [] ≡ m
-greater_exponents-nil [] = refl
-greater_exponents-nil (e ∷ m) = refl
 
 -- a term of a positive coefficient is a polynomial
 pub with_first_positive : (m : Monomial) (c : ℕ) → 0 < c → with_first (term m c) [] ≡ term m c ∷ []

@@ -17,7 +17,7 @@ use Rattle.division_rules.proofs.Identity.{combination-elimination, combination-
 use Rattle.division_rules.proofs.PolynomialSetting.{polynomial_setting}
 use Rattle.division_rules.proofs.RowsShape.{rows_combinations}
 use Rattle.division_rules.proofs.Settings.{ViewedRing}
-use Rattle.division_rules.proofs.Up.{up, up_all, up_rows, terms-up_all, down_canonical}
+use Rattle.division_rules.proofs.Up.{up, up_all, up_rows, terms-up_all, down_canonical, length-up_all}
 use Rattle.row_laws.specs.Words.{first_entries, StartRemainderRows}
 use Rattle.row_laws.specs.Combinations.{IsRowOver, AreRowsOver, CombinationsAreKept}
 use Rattle.row_laws.proofs.Lifts.{lifted-elimination, lifted-sparse_remainder, lifted-pseudo_remainder, lifted-reduction, lifted-remainder_rows}
@@ -36,10 +36,6 @@ IfRow-down p n many Q R (Some t) f h = f t h
 module _ (p n : ℕ) (prime : IsPrime p) where
   abbrev P : ViewedRing (CanonicalPolynomial p n)
   P = polynomial_setting p n prime
-
-  pub length-up_all : (fs : List Polynomial) (are : ArePolynomials p n fs) → length (up_all p n prime.many fs are) ≡ length fs
-  length-up_all [] are = refl
-  length-up_all (f ∷ fs) are = ap suc (length-up_all fs are.1)
 
   -- 0 and 1 among zeros
   pub terms-zeros : (k : ℕ) → terms_all p n prime.many (replicate k (canonical_operations p n prime.many).nil) ≡ replicate k []
@@ -62,7 +58,7 @@ module _ (p n : ℕ) (prime : IsPrime p) where
     -- a combination of lists of terms is one of canonical polynomials
     pub up_combination : (f : Row Polynomial) (h : IsRowOver p n gs f) → IsCombinationOf (canonical_operations p n prime.many) generators (up p n prime.many f h.canonical)
     up_combination f h = record {
-      one_each = length-up_all f.cofactors h.canonical.1 ∙ h.combination.one_each ∙ sym (length-up_all gs are_gs);
+      one_each = length-up_all p n prime.many f.cofactors h.canonical.1 ∙ h.combination.one_each ∙ sym (length-up_all p n prime.many gs are_gs);
       identity = canonical_path p n _ _ (h.combination.identity ∙ sym (terms-combined p n prime.many (up_all p n prime.many f.cofactors h.canonical.1) generators ∙ ap₂ (combined (list_operations p n)) (terms-up_all p n prime.many f.cofactors h.canonical.1) (terms-up_all p n prime.many gs are_gs)));
     }
 
@@ -71,7 +67,7 @@ module _ (p n : ℕ) (prime : IsPrime p) where
     down_combination f h = record {
       canonical = down_canonical p n prime.many f;
       combination = record {
-        one_each = length-map_by (terms p n prime.many) f.cofactors ∙ h.one_each ∙ length-up_all gs are_gs;
+        one_each = length-map_by (terms p n prime.many) f.cofactors ∙ h.one_each ∙ length-up_all p n prime.many gs are_gs;
         identity = ap (λ x. x.0) h.identity ∙ terms-combined p n prime.many f.cofactors generators ∙ ap (combined (list_operations p n) (terms_all p n prime.many f.cofactors)) (terms-up_all p n prime.many gs are_gs);
       };
     }

@@ -9,9 +9,9 @@ use Rattle.division_rules.proofs.CanonicalViews.{canonical_operations}
 use Rattle.division_rules.proofs.Down.{terms_all, down, terms-combined, down-times_row}
 use Rattle.division_rules.proofs.Identity.{combination-composed}
 use Rattle.division_rules.proofs.PolynomialSetting.{polynomial_setting}
-use Rattle.division_rules.proofs.Up.{up, up_all, terms-up_all, down-up}
+use Rattle.division_rules.proofs.Up.{up, up_all, terms-up_all, down-up, length-up_all}
 use Rattle.row_laws.specs.Combinations.{IsRowOver, composed_row, ComposedRowsAreCombinations}
-use Rattle.row_laws.proofs.CombinationRows.{length-up_all, generators, up_combination, down_combination}
+use Rattle.row_laws.proofs.CombinationRows.{generators, up_combination, down_combination}
 
 -- sums of entries are those of the lists of terms
 terms-entrywise_sum : (p n : ℕ) (many : 1 < p) (cs ds : List (CanonicalPolynomial p n)) → terms_all p n many (entrywise_sum (canonical_operations p n many) cs ds) ≡ entrywise_sum (list_operations p n) (terms_all p n many cs) (terms_all p n many ds)
@@ -21,7 +21,7 @@ terms-entrywise_sum p n many (c ∷ cs) (d ∷ ds) = ap (λ fs. sum_of p c.0 d.0
 
 -- the law
 pub composed_rows_are_combinations : ComposedRowsAreCombinations
-composed_rows_are_combinations p n gs a f es prime are i h ies lengths = subst (IsRowOver p n gs) same (down_combination p n prime gs are composed (combination-composed (polynomial_setting p n prime) (generators p n prime gs are) y (a, i) composed.first es_up (up_combination p n prime gs are f h) (length-up_all p n prime es ies ∙ lengths ∙ sym (length-up_all p n prime gs are)) refl))
+composed_rows_are_combinations p n gs a f es prime are i h ies lengths = subst (IsRowOver p n gs) same (down_combination p n prime gs are composed (combination-composed (polynomial_setting p n prime) (generators p n prime gs are) y (a, i) composed.first es_up (up_combination p n prime gs are f h) (length-up_all p n prime.many es ies ∙ lengths ∙ sym (length-up_all p n prime.many gs are)) refl))
   where
     y : Row (CanonicalPolynomial p n)
     y = up p n prime.many f h.canonical

@@ -1,9 +1,9 @@
 -- Degrees of remainders and reductions of lists of terms.
-use Rattle.std.proofs.Common.{◌≡◌, ◌≢◌, ℕ, zero, suc, ◌<◌, ◌≤◌, List, [], ◌∷◌, Some, sym, ap, ◌∙◌, subst, arith}
+use Rattle.std.proofs.Common.{◌≡◌, ◌≢◌, ℕ, suc, ◌<◌, ◌≤◌, List, [], ◌∷◌, Some, sym, ap, ◌∙◌, subst, arith}
 use Rattle.polynomials.specs.Primes.{IsPrime}
 use Rattle.polynomials.specs.Polynomials.{Polynomial}
 use Rattle.polynomials.specs.Views.{degree_in, main_var, IsFreeOf}
-use Rattle.polynomials.proofs.ExponentsBelow.{ExponentsBelow, ExponentsBelow-one, degree_in-from_ExponentsBelow}
+use Rattle.polynomials.proofs.ExponentsBelow.{ExponentsBelow-one, degree_in-from_ExponentsBelow, degree_in-less}
 use Rattle.polynomials.proofs.MainVariables.{degree_in_main_var}
 use Rattle.polynomials.proofs.PolynomialRing.{CanonicalPolynomial}
 use Rattle.zero_sets.specs.ZeroSets.{IsTriangularFrom}
@@ -23,13 +23,6 @@ use Rattle.row_laws.specs.Words.{first_entries}
 use Rattle.row_laws.specs.Degrees.{AreFreeOf, EliminationsLowerDegree, HaveLessDegree, RemaindersHaveLessDegree, KeepDegrees, DivisionsKeepDegrees, ReductionsKeepDegrees}
 use Rattle.row_laws.proofs.Lifts.{lifted-elimination, lifted-sparse_remainder, lifted-pseudo_remainder}
 use Rattle.row_laws.proofs.ReductionValues.{first_entries-plains, chain_rows, reduction_is}
-
--- from a bound that isn't 0, the degree is less
-pub degree_less : (v d : ℕ) (f : Polynomial) → 0 < d → ExponentsBelow v d f → degree_in v f < d
-degree_less v zero f some h = absurd (omega arith)
-degree_less v (suc d) f some h =
-    let bound = degree_in-from_ExponentsBelow v d f h in
-    omega arith
 
 -- x isn't the main variable of what doesn't have it
 pub main_differs : (x u : ℕ) (t : Polynomial) → main_var t ≡ Some u → IsFreeOf x t → x ≢ variable_or_zero (main_var t)
@@ -58,8 +51,8 @@ module _ (p n : ℕ) (prime : IsPrime p) where
     -- remainders have less degree than the divisor
     pub have_less_degree : 0 < degree_in v g.first → HaveLessDegree p n v f g
     have_less_degree some = record {
-      by_sparse_remainder = subst (λ h. degree_in v h.first < degree_in v g.first) sparse (degree_less v (degree_in v g.first) (sparse_remainder (canonical_operations p n prime.many) v y z).first.0 some (sparse_remainder-under P v y z));
-      by_pseudo_remainder = subst (λ h. degree_in v h.first < degree_in v g.first) pseudo (degree_less v (degree_in v g.first) (pseudo_remainder (canonical_operations p n prime.many) v y z).first.0 some (pseudo_remainder-under P v y z));
+      by_sparse_remainder = subst (λ h. degree_in v h.first < degree_in v g.first) sparse (degree_in-less v (degree_in v g.first) (sparse_remainder (canonical_operations p n prime.many) v y z).first.0 some (sparse_remainder-under P v y z));
+      by_pseudo_remainder = subst (λ h. degree_in v h.first < degree_in v g.first) pseudo (degree_in-less v (degree_in v g.first) (pseudo_remainder (canonical_operations p n prime.many) v y z).first.0 some (pseudo_remainder-under P v y z));
     }
 
     module _ (x : ℕ) (other : x ≢ v) (free : IsFreeOf x g.first) where
@@ -97,7 +90,7 @@ module _ (p n : ℕ) (prime : IsPrime p) where
 
 -- the laws
 pub eliminations_lower_degree : EliminationsLowerDegree
-eliminations_lower_degree p n v f g prime i j occurs at_most = subst (λ h. degree_in v h.first < degree_in v f.first) (lifted-elimination p n prime.many v f g i j) (degree_less v (degree_in v f.first) (elimination (canonical_operations p n prime.many) v (up p n prime.many f i) (up p n prime.many g j)).first.0 occurs (eliminated-under (polynomial_setting p n prime) v (f.first, i.0) (g.first, j.0) at_most))
+eliminations_lower_degree p n v f g prime i j occurs at_most = subst (λ h. degree_in v h.first < degree_in v f.first) (lifted-elimination p n prime.many v f g i j) (degree_in-less v (degree_in v f.first) (elimination (canonical_operations p n prime.many) v (up p n prime.many f i) (up p n prime.many g j)).first.0 occurs (eliminated-under (polynomial_setting p n prime) v (f.first, i.0) (g.first, j.0) at_most))
 
 pub remainders_have_less_degree : RemaindersHaveLessDegree
 remainders_have_less_degree p n v f g prime i j some = have_less_degree p n prime v f g i j some
@@ -106,4 +99,4 @@ pub divisions_keep_degrees : DivisionsKeepDegrees
 divisions_keep_degrees p n v x f g prime i j other free = keep_degrees p n prime v f g i j x other free
 
 pub reductions_keep_degrees : ReductionsKeepDegrees
-reductions_keep_degrees p n x chain f prime are i triangular free = subst (λ g. degree_in x g ≤ degree_in x f) (reduction_is p n prime chain are f i) (degree_in-from_ExponentsBelow x (degree_in x f) _ (reduction-other (polynomial_setting p n prime) x (suc (degree_in x f)) (chain_rows p n prime chain are) (free_apart p n prime x 0 (plains chain) (plains_canonical p n prime.many chain are) (subst (IsTriangularFrom 0) (sym (first_entries-plains chain)) triangular) (subst (AreFreeOf x) (sym (first_entries-plains chain)) free)) (free_rows p n prime x (plains chain) (plains_canonical p n prime.many chain are) (subst (AreFreeOf x) (sym (first_entries-plains chain)) free)) (up p n prime.many (plain f) (i, tt)) ((polynomial_setting p n prime).laws.degree-under x (f, i))))
+reductions_keep_degrees p n x chain f prime are i triangular free = subst (λ g. degree_in x g ≤ degree_in x f) (reduction_is p n prime chain are f i) (degree_in-from_ExponentsBelow x (degree_in x f) _ (reduction-other (polynomial_setting p n prime) x (suc (degree_in x f)) (chain_rows p n prime chain are) (free_apart p n prime x 0 (plains chain) (plains_canonical p n chain are) (subst (IsTriangularFrom 0) (sym (first_entries-plains chain)) triangular) (subst (AreFreeOf x) (sym (first_entries-plains chain)) free)) (free_rows p n prime x (plains chain) (plains_canonical p n chain are) (subst (AreFreeOf x) (sym (first_entries-plains chain)) free)) (up p n prime.many (plain f) (i, tt)) ((polynomial_setting p n prime).laws.degree-under x (f, i))))

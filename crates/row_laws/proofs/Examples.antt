@@ -1,17 +1,17 @@
 -- The definitions, tried by computation modulo 5 on polynomials in a < b < x.
 use Rattle.std.proofs.Common.{◌≡◌, ℕ, ◌<◌, [], ◌∷◌, Some, Contains, refl, subst, arith}
 use Rattle.std.proofs.lemmas.List.Elements.{All-nil, All-cons}
+use Rattle.std.proofs.lemmas.Option.{same_Some}
 use Rattle.polynomials.specs.Polynomials.{Polynomial, term, scaled}
 use Rattle.polynomials.specs.Views.{degree_in}
 use Rattle.zero_sets.proofs.PrimeFields.{residue_tables}
 use Rattle.division_rules.specs.Rows.{Row, plain}
-use Rattle.division_rules.proofs.Identity.{some_same}
+use Rattle.division_rules.proofs.Factors.{Contains-first}
 use Rattle.row_laws.specs.Words.{first_entries, reduction_of, StartRemainderRows}
 use Rattle.row_laws.specs.Combinations.{IsRowOver}
 use Rattle.row_laws.specs.Values.{IsMultipleByInitials}
 use Rattle.row_laws.specs.Degrees.{IsRowFreeOf}
 use Rattle.row_laws.specs.Members.{IsMember, IsPointAtMember}
-use Rattle.row_laws.proofs.Initials.{Contains-first}
 
 abbrev one : Polynomial
 one = term (0 ∷ 0 ∷ 0 ∷ []) 1 ∷ []
@@ -55,7 +55,7 @@ multiplied : IsMultipleByInitials 5 3 (residue_tables 5) (2 ∷ 1 ∷ 0 ∷ []) 
 multiplied = (a ∷ a ∷ [], All-cons (Contains (a ∷ [])) a (a ∷ []) first (All-cons (Contains (a ∷ [])) a [] first (All-nil (Contains (a ∷ [])))), refl)
   where
     first : Contains (a ∷ []) a
-    first = Contains-first a a [] refl
+    first = Contains-first a []
 
 -- 4 a x^2 + 3 b and a x + 4 start remainder rows in x below a b + 3
 abbrev line : Polynomial
@@ -71,7 +71,7 @@ start = record {
 }
   where
     less : (v : ℕ) → Some 1 ≡ Some v → degree_in v line < degree_in v hyperbola
-    less v is = subst (λ u. degree_in u line < degree_in u hyperbola) (some_same 1 v is) (omega arith)
+    less v is = subst (λ u. degree_in u line < degree_in u hyperbola) (same_Some 1 v is) (omega arith)
 
 -- b x over b and x, with the cofactors x and 0
 abbrev product_row : Row Polynomial

@@ -1,5 +1,5 @@
 -- Products of initials: of lists of terms and of canonical polynomials.
-use Rattle.std.proofs.Common.{◌≡◌, inl, inr, ℕ, suc, ◌<◌, List, [], ◌∷◌, map, All, Contains, refl, sym, ap, ◌∙◌, arith}
+use Rattle.std.proofs.Common.{◌≡◌, inl, inr, ℕ, ◌<◌, List, [], ◌∷◌, map, All, Contains, refl, sym, ap, ◌∙◌, arith}
 use Rattle.std.proofs.lemmas.List.Elements.{All-nil, All-cons}
 use Rattle.polynomials.specs.Polynomials.{Polynomial, product_of}
 use Rattle.polynomials.specs.Views.{initial_of}
@@ -12,15 +12,8 @@ use Rattle.division_rules.proofs.CanonicalViews.{canonical_operations}
 use Rattle.division_rules.proofs.ListWords.{list_initial}
 use Rattle.division_rules.proofs.Down.{terms_all}
 use Rattle.division_rules.proofs.Up.{up_rows}
+use Rattle.division_rules.proofs.Factors.{Contains-later}
 use Rattle.row_laws.specs.Words.{first_entries}
-
--- a member of the rest is a member
-pub Contains-later : {X : Type 0} (x y : X) (xs : List X) → Contains xs x → Contains (y ∷ xs) x
-Contains-later x y xs (k, less, same) = (suc k, omega arith, same)
-
--- the first is a member
-pub Contains-first : {X : Type 0} (x y : X) (xs : List X) → y ≡ x → Contains (y ∷ xs) x
-Contains-first x y xs same = (0, omega arith, same)
 
 module _ (p n : ℕ) (many : 1 < p) where
   -- products
@@ -31,8 +24,8 @@ module _ (p n : ℕ) (many : 1 < p) where
   -- an initial of rows is one of the initials of their first entries
   initial_member : (chain : List (Row Polynomial)) (are : ArePolynomialRows p n chain) (a : CanonicalPolynomial p n) → IsInitial (canonical_operations p n many) (up_rows p n many chain are) a → Contains (map initial_of (first_entries chain)) a.0
   initial_member [] are a h = absurd h
-  initial_member (t ∷ chain) are a (inl e) = Contains-first a.0 (initial_of t.first) (map initial_of (first_entries chain)) (sym (ap (λ x. x.0) e ∙ list_initial p n t.first))
-  initial_member (t ∷ chain) are a (inr h) = Contains-later a.0 (initial_of t.first) (map initial_of (first_entries chain)) (initial_member chain are.1 a h)
+  initial_member (t ∷ chain) are a (inl e) = (0, omega arith, sym (ap (λ x. x.0) e ∙ list_initial p n t.first))
+  initial_member (t ∷ chain) are a (inr h) = Contains-later (initial_of t.first) (map initial_of (first_entries chain)) a.0 (initial_member chain are.1 a h)
 
   -- so are several
   pub initial_members : (chain : List (Row Polynomial)) (are : ArePolynomialRows p n chain) (js : List (CanonicalPolynomial p n)) → AreInitials (canonical_operations p n many) (up_rows p n many chain are) js → All (Contains (map initial_of (first_entries chain))) (terms_all p n many js)

@@ -1,21 +1,17 @@
 -- Members of triangular sets, and those below them.
 use Rattle.std.proofs.Common.{◌≡◌, ◌≢◌, ℕ, suc, ◌<◌, ◌≤◌, Bool, true, false, List, [], ◌∷◌, ◌++◌, map, Some, refl, sym, ap, ◌∙◌, subst, arith}
 use Rattle.std.proofs.lemmas.Bool.{eqb-true, lt-ltb, le-ltb}
+use Rattle.std.proofs.lemmas.Option.{same_Some}
 use Rattle.polynomials.specs.Polynomials.{Polynomial}
 use Rattle.polynomials.specs.Views.{main_var, lead_in_main, initial_of}
 use Rattle.zero_sets.specs.Domains.{Tables, value_at}
 use Rattle.zero_sets.specs.ZeroSets.{InZeroSet, AreNonZero, IsTriangularFrom, is_variable, member_in, is_variable_below, members_below}
 use Rattle.zero_sets.proofs.CertificateLemmas.{InZeroSet-members_below}
+use Rattle.zero_sets.proofs.TriangularSets.{below_triangular}
 use Rattle.division_rules.specs.Rows.{plain}
 use Rattle.division_rules.specs.Triangular.{HasLessDegree}
-use Rattle.division_rules.proofs.Identity.{some_same}
 use Rattle.row_laws.specs.Words.{AreBelow, IsReducedBy}
 use Rattle.row_laws.specs.Members.{IsMember, MembersArePlaced, MembersStartRemainderRows, PointsAtMembers}
-
--- main variables from a greater one on are such from a lesser one on
-pub triangular_from_less : (u v : ℕ) (chain : List Polynomial) → u ≤ v → IsTriangularFrom v chain → IsTriangularFrom u chain
-triangular_from_less u v [] less h = tt
-triangular_from_less u v (t ∷ chain) less (m, main, up_to, later) = (m, main, omega (arith, less, up_to), later)
 
 -- none of them is below v
 none_below : (v u : ℕ) (chain : List Polynomial) → v ≤ u → IsTriangularFrom u chain → members_below v chain ≡ []
@@ -38,9 +34,9 @@ placed v u (s ∷ chain) t (m, main, up_to, later) there = go (is_variable v (ma
   where
     go : (b : Bool) → is_variable v (main_var s) ≡ b → elim b [ true ↦ Some s | false ↦ member_in v chain ] ≡ Some t → (member_in v chain ≡ Some t → IsMember v chain t) → IsMember v (s ∷ chain) t
     go true e found further = record {
-      main = ap main_var (sym (some_same s t found)) ∙ main ∙ ap Some same;
+      main = ap main_var (sym (same_Some s t found)) ∙ main ∙ ap Some same;
       more = chain;
-      parts = ap (λ x. x ∷ chain) (some_same s t found) ∙ ap (λ xs. xs ++ t ∷ chain) (sym (ap (λ b. elim b [ true ↦ s ∷ members_below v chain | false ↦ members_below v chain ]) (ap (is_variable_below v) main ∙ le-ltb m v (omega (arith, same))) ∙ none_below v (suc m) chain (omega (arith, same)) later));
+      parts = ap (λ x. x ∷ chain) (same_Some s t found) ∙ ap (λ xs. xs ++ t ∷ chain) (sym (ap (λ b. elim b [ true ↦ s ∷ members_below v chain | false ↦ members_below v chain ]) (ap (is_variable_below v) main ∙ le-ltb m v (omega (arith, same))) ∙ none_below v (suc m) chain (omega (arith, same)) later));
     }
       where
         same : m ≡ v
@@ -67,15 +63,6 @@ module _ (v : ℕ) where
       go true e later = (e, later)
       go false e later = later
 
-  -- and triangular
-  pub members_triangular : (u : ℕ) (chain : List Polynomial) → IsTriangularFrom u chain → IsTriangularFrom u (members_below v chain)
-  members_triangular u [] h = tt
-  members_triangular u (t ∷ chain) (m, main, up_to, later) = go (is_variable_below v (main_var t)) (members_triangular (suc m) chain later)
-    where
-      go : (b : Bool) → IsTriangularFrom (suc m) (members_below v chain) → IsTriangularFrom u (elim b [ true ↦ t ∷ members_below v chain | false ↦ members_below v chain ])
-      go true rest = (m, main, up_to, rest)
-      go false rest = triangular_from_less u (suc m) (members_below v chain) (omega (arith, up_to)) rest
-
   -- what is reduced by all is reduced by those below v
   pub members_reduce : (c : Polynomial) (chain : List Polynomial) → IsReducedBy c chain → IsReducedBy c (members_below v chain)
   members_reduce c [] h = tt
@@ -91,7 +78,7 @@ module _ (v : ℕ) where
   member_reduces c (s ∷ chain) t h there = go (is_variable v (main_var s)) there (member_reduces c chain t h.1)
     where
       go : (b : Bool) → elim b [ true ↦ Some s | false ↦ member_in v chain ] ≡ Some t → (member_in v chain ≡ Some t → HasLessDegree c (plain t)) → HasLessDegree c (plain t)
-      go true found further = subst (λ x. HasLessDegree c (plain x)) (some_same s t found) h.0
+      go true found further = subst (λ x. HasLessDegree c (plain x)) (same_Some s t found) h.0
       go false found further = further found
 
   module _ (r : Tables) (xs : List ℕ) where
@@ -110,7 +97,7 @@ module _ (v : ℕ) where
     member_at (s ∷ chain) t zeros others there = go (is_variable v (main_var s)) there (member_at chain t zeros.1 others.1)
       where
         go : (b : Bool) → elim b [ true ↦ Some s | false ↦ member_in v chain ] ≡ Some t → (member_in v chain ≡ Some t → (value_at r xs t ≡ r.nil) × (value_at r xs (initial_of t) ≢ r.nil)) → (value_at r xs t ≡ r.nil) × (value_at r xs (initial_of t) ≢ r.nil)
-        go true found further = subst (λ x. (value_at r xs x ≡ r.nil) × (value_at r xs (initial_of x) ≢ r.nil)) (some_same s t found) (zeros.0, others.0)
+        go true found further = subst (λ x. (value_at r xs x ≡ r.nil) × (value_at r xs (initial_of x) ≢ r.nil)) (same_Some s t found) (zeros.0, others.0)
         go false found further = further found
 
 -- the laws
@@ -119,7 +106,7 @@ members_are_placed v chain t triangular there = placed v 0 chain t triangular th
 
 pub members_start_remainder_rows : MembersStartRemainderRows
 members_start_remainder_rows v chain t c triangular there reduced occurs = record {
-  triangular = members_triangular v 0 chain triangular;
+  triangular = below_triangular 0 v chain triangular;
   below = members_are_below v chain;
   reduced = members_reduce v c chain reduced;
   occurs = occurs;

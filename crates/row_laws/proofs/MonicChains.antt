@@ -8,7 +8,7 @@ use Rattle.polynomials.proofs.Canonical.{IsPolynomial-constant_of}
 use Rattle.polynomials.proofs.ConstantLemmas.{constant_of_nonzero, constant_of_free, constant_of-product_of}
 use Rattle.polynomials.proofs.ExponentsBelow.{ExponentsBelow-one}
 use Rattle.polynomials.proofs.InverseLemmas.{inverse_of_is}
-use Rattle.polynomials.proofs.MonicLemmas.{IsPolynomial-monic}
+use Rattle.polynomials.proofs.MonicLemmas.{IsPolynomial-monic, inverse_positive}
 use Rattle.polynomials.proofs.PolynomialRing.{CanonicalPolynomial, canonical_path}
 use Rattle.polynomials.proofs.RingLaws.{times-nil}
 use Rattle.division_rules.specs.Lists.{variable_or_zero}
@@ -22,7 +22,6 @@ use Rattle.division_rules.proofs.Up.{up, up_rows, plains_canonical}
 use Rattle.row_laws.specs.Scaling.{MonicChainsReduceAlike}
 use Rattle.row_laws.proofs.ReductionValues.{chain_rows, canonical_reduction, reduction_is}
 use Rattle.row_laws.proofs.ScaledDivisors.{IsMultipleOf, AreMultiplesOf, reduction-divisors}
-use Rattle.row_laws.proofs.ScaledReductions.{inverse_positive}
 
 -- a multiple has the same main variable
 main_var-scaled : (p k : ℕ) (f : Polynomial) → main_var (scaled p k f) ≡ main_var f
@@ -47,7 +46,7 @@ module _ (p n : ℕ) (prime : IsPrime p) where
       k = inverse_of p t.1
 
       positive : 0 < k
-      positive = inverse_positive p t.1 prime i.1 i.2
+      positive = inverse_positive p t.1 k (inverse_of_is p t.1 prime i.1 i.2)
 
       small : k < p
       small = (inverse_of_is p t.1 prime i.1 i.2).0
@@ -73,7 +72,7 @@ monic_chains_reduce_alike p n chain f prime are i = (λ e. sym (reduction_is p n
     monics = monics_canonical p n prime chain are
 
     multiple : IsMultipleOf (polynomial_setting p n prime) (reduction (canonical_operations p n prime.many) (chain_rows p n prime (map (monic p) chain) monics) (up p n prime.many (plain f) (i, tt))) (reduction (canonical_operations p n prime.many) (chain_rows p n prime chain are) (up p n prime.many (plain f) (i, tt)))
-    multiple = reduction-divisors (polynomial_setting p n prime) (chain_rows p n prime (map (monic p) chain) monics) (chain_rows p n prime chain are) (monic_multiples p n prime chain (plains_canonical p n prime.many chain are) (plains_canonical p n prime.many (map (monic p) chain) monics)) (up p n prime.many (plain f) (i, tt))
+    multiple = reduction-divisors (polynomial_setting p n prime) (chain_rows p n prime (map (monic p) chain) monics) (chain_rows p n prime chain are) (monic_multiples p n prime chain (plains_canonical p n chain are) (plains_canonical p n (map (monic p) chain) monics)) (up p n prime.many (plain f) (i, tt))
 
     first_is : canonical_reduction p n prime (map (monic p) chain) monics f i ≡ P.ring.◌⊗◌ multiple.0 (canonical_reduction p n prime chain are f i)
     first_is = ap (λ (h : Row (CanonicalPolynomial p n)). h.first) multiple.2

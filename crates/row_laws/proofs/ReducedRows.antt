@@ -9,7 +9,7 @@ use Rattle.division_rules.specs.Rows.{Row, plain, plains, reduction}
 use Rattle.division_rules.proofs.Down.{down}
 use Rattle.division_rules.proofs.PolynomialSetting.{polynomial_setting}
 use Rattle.division_rules.proofs.Reduced.{reduction-same}
-use Rattle.division_rules.proofs.Up.{up, up_rows, down-up}
+use Rattle.division_rules.proofs.Up.{up, up_rows, down-up, plains_canonical}
 use Rattle.row_laws.specs.Words.{first_entries, IsReducedBy}
 use Rattle.row_laws.specs.Degrees.{ReducedStaysSame, ReducedByMore}
 use Rattle.row_laws.proofs.Lifts.{lifted-reduction}
@@ -25,11 +25,7 @@ reduced_stays_same p n chain f prime are triangular reduced = reduced_same p n p
 
 -- the last members, by which f is reduced, change nothing
 without_more : (p n : ℕ) (prime : IsPrime p) (v : ℕ) (chain more : List Polynomial) (f : Polynomial) → ArePolynomials p n (chain ++ more) → IsPolynomial p n f → IsTriangularFrom v (chain ++ more) → IsReducedBy f more → reduction (list_operations p n) (plains (chain ++ more)) (plain f) ≡ reduction (list_operations p n) (plains chain) (plain f)
-without_more p n prime v [] more f are i triangular reduced = reduced_same p n prime v (plains more) (plain f) (rows_are more are) (i, tt) (subst (IsTriangularFrom v) (sym (first_entries-plains more)) triangular) (subst (IsReducedBy f) (sym (first_entries-plains more)) reduced)
-  where
-    rows_are : (fs : List Polynomial) → ArePolynomials p n fs → ArePolynomialRows p n (plains fs)
-    rows_are [] h = tt
-    rows_are (g ∷ fs) h = ((h.0, tt), rows_are fs h.1)
+without_more p n prime v [] more f are i triangular reduced = reduced_same p n prime v (plains more) (plain f) (plains_canonical p n more are) (i, tt) (subst (IsTriangularFrom v) (sym (first_entries-plains more)) triangular) (subst (IsReducedBy f) (sym (first_entries-plains more)) reduced)
 without_more p n prime v (t ∷ chain) more f are i (u, main, up_to, later) reduced = ap (λ h. reduction (list_operations p n) (plain t ∷ []) h) (without_more p n prime (suc u) chain more f are.1 i later reduced)
 
 pub reduced_by_more : ReducedByMore

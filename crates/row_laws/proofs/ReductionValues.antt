@@ -36,14 +36,14 @@ first_entries-unit_rows p n before (f ∷ fs) = ap (λ x. f ∷ x) (first_entrie
 module _ (p n : ℕ) (prime : IsPrime p) (chain : List Polynomial) (are : ArePolynomials p n chain) where
   -- the chain as rows of canonical polynomials
   abbrev pub chain_rows : List (Row (CanonicalPolynomial p n))
-  chain_rows = up_rows p n prime.many (plains chain) (plains_canonical p n prime.many chain are)
+  chain_rows = up_rows p n prime.many (plains chain) (plains_canonical p n chain are)
 
   -- the reduction as a canonical polynomial
   abbrev pub canonical_reduction : (f : Polynomial) → IsPolynomial p n f → CanonicalPolynomial p n
   canonical_reduction f i = (reduction (canonical_operations p n prime.many) chain_rows (up p n prime.many (plain f) (i, tt))).first
 
   pub reduction_is : (f : Polynomial) (i : IsPolynomial p n f) → (canonical_reduction f i).0 ≡ reduction_of p n chain f
-  reduction_is f i = ap (λ h. h.first) (lifted-reduction p n prime.many (plains chain) (plains_canonical p n prime.many chain are) (plain f) (i, tt))
+  reduction_is f i = ap (λ h. h.first) (lifted-reduction p n prime.many (plains chain) (plains_canonical p n chain are) (plain f) (i, tt))
 
   module _ (r : Tables) (domain : IsFiniteDomain p r) (xs : List ℕ) (point : IsPoint r xs) where
     abbrev P : ViewedRing (CanonicalPolynomial p n)
@@ -56,10 +56,10 @@ module _ (p n : ℕ) (prime : IsPrime p) (chain : List Polynomial) (are : ArePol
     number g = table_number p n prime r domain xs point g
 
     pub chain_rows_zero : InZeroSet r xs chain → AllZero P E chain_rows
-    chain_rows_zero zeros = chain_zero p n prime r domain xs point (plains chain) (plains_canonical p n prime.many chain are) (subst (InZeroSet r xs) (sym (first_entries-plains chain)) zeros)
+    chain_rows_zero zeros = chain_zero p n prime r domain xs point (plains chain) (plains_canonical p n chain are) (subst (InZeroSet r xs) (sym (first_entries-plains chain)) zeros)
 
     pub chain_rows_initials : AreNonZero r xs (map initial_of chain) → InitialsNotZero P E chain_rows
-    chain_rows_initials others = chain_initials p n prime r domain xs point (plains chain) (plains_canonical p n prime.many chain are) (subst (λ fs. AreNonZero r xs (map initial_of fs)) (sym (first_entries-plains chain)) others)
+    chain_rows_initials others = chain_initials p n prime r domain xs point (plains chain) (plains_canonical p n chain are) (subst (λ fs. AreNonZero r xs (map initial_of fs)) (sym (first_entries-plains chain)) others)
 
     module _ (f : Polynomial) (i : IsPolynomial p n f) (zeros : InZeroSet r xs chain) where
       abbrev row : Row (CanonicalPolynomial p n)
@@ -67,7 +67,7 @@ module _ (p n : ℕ) (prime : IsPrime p) (chain : List Polynomial) (are : ArePol
 
       -- the value of the reduction is a multiple by initials
       pub reduction_multiple : IsMultipleByInitials p n r xs chain (value_at r xs f) (value_at r xs (reduction_of p n chain f))
-      reduction_multiple = (terms_all p n prime.many scaled.0, subst (λ fs. All (Contains (map initial_of fs)) (terms_all p n prime.many scaled.0)) (first_entries-plains chain) (initial_members p n prime.many (plains chain) (plains_canonical p n prime.many chain are) scaled.0 scaled.1), ap (value_at r xs) (sym (reduction_is f i)) ∙ sym (number (canonical_reduction f i)) ∙ ap (λ u. u.0) scaled.2 ∙ ap₂ (times_in r) (number (product_of_all (canonical_operations p n prime.many) scaled.0) ∙ ap (value_at r xs) (terms-product_of_all p n prime.many scaled.0)) (number (f, i)))
+      reduction_multiple = (terms_all p n prime.many scaled.0, subst (λ fs. All (Contains (map initial_of fs)) (terms_all p n prime.many scaled.0)) (first_entries-plains chain) (initial_members p n prime.many (plains chain) (plains_canonical p n chain are) scaled.0 scaled.1), ap (value_at r xs) (sym (reduction_is f i)) ∙ sym (number (canonical_reduction f i)) ∙ ap (λ u. u.0) scaled.2 ∙ ap₂ (times_in r) (number (product_of_all (canonical_operations p n prime.many) scaled.0) ∙ ap (value_at r xs) (terms-product_of_all p n prime.many scaled.0)) (number (f, i)))
         where
           scaled : IsScaled P E chain_rows (E.val (f, i)) (E.val (canonical_reduction f i))
           scaled = val-reduction P E chain_rows (chain_rows_zero zeros) row

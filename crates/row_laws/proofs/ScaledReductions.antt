@@ -1,7 +1,6 @@
 -- Reductions of multiples of lists of terms by constants.
-use Rattle.std.proofs.Common.{◌≡◌, ℕ, zero, suc, ◌*◌, ◌%◌, ◌<◌, [], ◌∷◌, sym, ap, ◌∙◌, arith}
-use Rattle.std.proofs.Math.Nat.{mul-zero, zero-mod}
-use Rattle.polynomials.specs.Primes.{IsPrime, inverse_of}
+use Rattle.std.proofs.Common.{◌≡◌, ℕ, [], ◌∷◌, sym, ap, ◌∙◌}
+use Rattle.polynomials.specs.Primes.{inverse_of}
 use Rattle.polynomials.specs.Polynomials.{Polynomial, IsPolynomial, scaled, constant_of, product_of}
 use Rattle.polynomials.proofs.Canonical.{IsPolynomial-constant_of}
 use Rattle.polynomials.proofs.ConstantLemmas.{constant_of_nonzero, constant_of_free, constant_of-product_of}
@@ -9,6 +8,7 @@ use Rattle.polynomials.proofs.ExponentsBelow.{ExponentsBelow-one}
 use Rattle.polynomials.proofs.InverseLemmas.{inverse_of_is}
 use Rattle.polynomials.proofs.PolynomialRing.{CanonicalPolynomial}
 use Rattle.polynomials.proofs.ScaledLemmas.{scaled_zero}
+use Rattle.polynomials.proofs.MonicLemmas.{inverse_positive}
 use Rattle.division_rules.specs.Rows.{plain}
 use Rattle.division_rules.proofs.CanonicalViews.{canonical_operations}
 use Rattle.division_rules.proofs.PolynomialSetting.{polynomial_setting}
@@ -31,14 +31,6 @@ reductions_of_multiples p n k chain f prime positive small are i = ap (reduction
     as_product : (g : Polynomial) → IsPolynomial p n g → product_of p (constant_of n k) g ≡ scaled p k g
     as_product g j = constant_of-product_of p n k g prime positive small j
 
--- the inverse isn't 0
-pub inverse_positive : (p a : ℕ) → IsPrime p → 0 < a → a < p → 0 < inverse_of p a
-inverse_positive p a prime positive below = go (inverse_of p a) (inverse_of_is p a prime positive below).1
-  where
-    go : (b : ℕ) → a * b % p ≡ 1 → 0 < b
-    go zero e = let f = sym (ap (λ u. u % p) (mul-zero a) ∙ zero-mod p) ∙ e in absurd (omega (arith, f))
-    go (suc b) e = omega arith
-
 pub monic_reduces_alike : MonicReducesAlike
 monic_reduces_alike p n chain [] prime are i = (λ e. e, λ e. e)
 monic_reduces_alike p n chain (t ∷ f) prime are i = (λ e. scaled_zero p k (reduction_of p n chain (t ∷ f)) (sym multiple ∙ e), λ e. multiple ∙ ap (scaled p k) e)
@@ -47,4 +39,6 @@ monic_reduces_alike p n chain (t ∷ f) prime are i = (λ e. scaled_zero p k (re
     k = inverse_of p t.1
 
     multiple : reduction_of p n chain (scaled p k (t ∷ f)) ≡ scaled p k (reduction_of p n chain (t ∷ f))
-    multiple = reductions_of_multiples p n k chain (t ∷ f) prime (inverse_positive p t.1 prime i.1 i.2) (inverse_of_is p t.1 prime i.1 i.2).0 are i
+    multiple =
+        let inverse = inverse_of_is p t.1 prime i.1 i.2 in
+        reductions_of_multiples p n k chain (t ∷ f) prime (inverse_positive p t.1 k inverse) inverse.0 are i

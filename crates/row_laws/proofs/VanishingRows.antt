@@ -1,5 +1,6 @@
 -- Remainder rows and combinations at points where what they are made of is zero.
 use Rattle.std.proofs.Common.{ℕ, zero, suc, List, [], ◌∷◌, sym, ap, ◌∙◌, subst}
+use Rattle.std.proofs.lemmas.Option.{same_Some}
 use Rattle.polynomials.specs.Primes.{IsPrime}
 use Rattle.polynomials.specs.Polynomials.{Polynomial, ArePolynomials}
 use Rattle.polynomials.proofs.PolynomialRing.{CanonicalPolynomial}
@@ -18,7 +19,6 @@ use Rattle.division_rules.proofs.RowsFree.{EachOf}
 use Rattle.division_rules.proofs.Settings.{ViewedRing, Evaluation, IsZero, NotZero}
 use Rattle.division_rules.proofs.Up.{up, up_all, up_rows, down-up}
 use Rattle.division_rules.proofs.Vanish.{remainder_rows_vanish as canonical_rows_vanish}
-use Rattle.division_rules.proofs.Identity.{some_same}
 use Rattle.row_laws.specs.Values.{CombinationsKeepZeros}
 use Rattle.row_laws.specs.Vanishing.{AreZeroByLeads, RemainderRowsVanish}
 use Rattle.row_laws.proofs.Lifts.{lifted-remainder_rows}
@@ -36,7 +36,7 @@ module _ (p n : ℕ) (prime : IsPrime p) (r : Tables) (domain : IsFiniteDomain p
   -- rows that vanish unless leads do, at a place of the list
   vanish_at : (v : ℕ) (H : Type 0) (g : Row (CanonicalPolynomial p n)) (later : List (Row (CanonicalPolynomial p n))) → Vanish (canonical_operations p n prime.many) E.val E.values.nil v H g later → H → AreZeroByLeads p n v r xs (down p n prime.many g) (down_all p n prime.many later)
   vanish_at v H g [] vanish known i h there leads_are = cc
-  vanish_at v H g (f ∷ later) vanish known zero h there leads_are = ap (λ x. value_at r xs x.first) (sym (some_same (down p n prime.many f) h there)) ∙ zero_table p n prime r domain xs point f.first (vanish.0 known)
+  vanish_at v H g (f ∷ later) vanish known zero h there leads_are = ap (λ x. value_at r xs x.first) (sym (same_Some (down p n prime.many f) h there)) ∙ zero_table p n prime r domain xs point f.first (vanish.0 known)
   vanish_at v H g (f ∷ later) vanish known (suc i) h there leads_are = vanish_at v (H × NotZero P E (lead (canonical_operations p n prime.many) v g.first)) f later vanish.1 (known, table_not_zero p n prime r domain xs point (lead (canonical_operations p n prime.many) v g.first) leads_are.0) i h there leads_are.1
 
   -- the generators are zero

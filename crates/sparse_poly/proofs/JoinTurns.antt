@@ -1,9 +1,10 @@
 -- What one turn of joining sorted terms keeps.
-use Rattle.std.proofs.Common.{◌≡◌, ◌≢◌, ◌<◌, ◌≤◌, ◌+◌, ◌%◌, ℕ, zero, suc, List, [], ◌∷◌, ◌++◌, length, get_or, drop, refl, ap, sym, ◌∙◌, subst, append_assoc, append-nil}
+use Rattle.std.proofs.Common.{◌≡◌, ◌≢◌, ◌<◌, ◌≤◌, ◌+◌, ◌%◌, ℕ, List, [], ◌∷◌, ◌++◌, length, get_or, drop, ap, sym, ◌∙◌, subst, append_assoc, append-nil}
 use Rattle.std.proofs.Math.Nat.{mod-lt, mod-eq_of_lt}
 use Rattle.std.proofs.Math.ListN.{drop_of_length-le}
 use Rattle.polynomials.specs.Monomials.{Monomial}
-use Rattle.polynomials.specs.Polynomials.{Term, term, Polynomial, with_first, collected}
+use Rattle.polynomials.specs.Polynomials.{Term, term, with_first, collected}
+use Rattle.polynomials.proofs.FirstTerms.{with_first_nonzero}
 use Rattle.sparse_poly.specs.Falling.{AreResidues, HaveVariables, IsFalling}
 use Rattle.sparse_poly.proofs.Places.{drop_item}
 use Rattle.sparse_poly.proofs.Collecting.{collected-same, collected-first, falling_below, below_from_other}
@@ -39,11 +40,6 @@ module _ (p n : ℕ) (positive : 0 < p) (all out : List Term) (m : Monomial) (s 
     ap (λ f. out ++ f) (sym (opened t later other h ∙ ap (λ c. with_first (term m c) (collected p (t ∷ later))) none)) ∙ h.3,
   )
 
-  -- a first term other than 0 is kept
-  kept : (c : ℕ) (f : Polynomial) → c ≢ 0 → with_first (term m c) f ≡ term m c ∷ f
-  kept zero f some = absurd (some refl)
-  kept (suc c) f some = refl
-
   -- and another sum is kept
   join_other : (t : Term) (later : List Term) → t.0 ≢ m → s ≢ 0 → Joining p n all out m s (t ∷ later) → Joining p n all (out ++ term m s ∷ []) t.0 t.1 later
   join_other t later other some h = (
@@ -51,7 +47,7 @@ module _ (p n : ℕ) (positive : 0 < p) (all out : List Term) (m : Monomial) (s 
     h.1.1,
     h.2.1,
     append_assoc out (term m s ∷ []) (collected p (t ∷ later))
-        ∙ (ap (λ f. out ++ f) (sym (opened t later other h ∙ kept s (collected p (t ∷ later)) some)) ∙ h.3),
+        ∙ (ap (λ f. out ++ f) (sym (opened t later other h ∙ with_first_nonzero m s (collected p (t ∷ later)) some)) ∙ h.3),
   )
 
   -- without terms to come
@@ -64,7 +60,7 @@ module _ (p n : ℕ) (positive : 0 < p) (all out : List Term) (m : Monomial) (s 
 
   -- and another is kept
   join_end : s ≢ 0 → Joining p n all out m s [] → out ++ term m s ∷ [] ≡ all
-  join_end some h = ap (λ f. out ++ f) (sym (kept s [] some)) ∙ closed h
+  join_end some h = ap (λ f. out ++ f) (sym (with_first_nonzero m s [] some)) ∙ closed h
 
   -- the same at the places of a list
   module _ (rest : List Term) (k : ℕ) (t : Term) (below : k < length rest) (at : t ≡ get_or rest k t) (h : Joining p n all out m s (drop k rest)) where

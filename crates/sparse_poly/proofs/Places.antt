@@ -1,15 +1,12 @@
 -- Places of a list of terms: items, what is left from a place on, and their canonical form.
-use Rattle.std.proofs.Common.{◌≡◌, ◌<◌, ◌+◌, ◌-◌, ℕ, zero, suc, List, [], ◌∷◌, length, get_or, drop, take, ap, sym, ◌∙◌, subst, arith, drop-cons}
+use Rattle.std.proofs.Common.{◌≡◌, ◌<◌, ◌+◌, ◌-◌, ℕ, zero, suc, List, [], ◌∷◌, length, get_or, drop, take, ap, sym, ◌∙◌, subst}
 use Rattle.std.proofs.Math.Seq.{take-length}
-use Rattle.std.proofs.lemmas.List.{length-drop}
+use Rattle.std.proofs.lemmas.List.{length-drop, drop_more}
 use Rattle.polynomials.specs.Polynomials.{Term, Polynomial, IsPolynomial}
 
 -- from the place i on the item at i comes first
 pub drop_item : (s : List Term) (i : ℕ) (x : Term) → i < length s → x ≡ get_or s i x → drop i s ≡ x ∷ drop (i + 1) s
-drop_item s i x below is = drop-cons s i x below ∙ (ap (λ y. y ∷ drop (suc i) s) (sym is) ∙ ap (λ j. x ∷ drop j s) (one_later i))
-  where
-    one_later : (k : ℕ) → suc k ≡ k + 1
-    one_later k = omega arith
+drop_item s i x below is = drop_more s i x below ∙ ap (λ y. y ∷ drop (i + 1) s) (sym is)
 
 -- what is left of a polynomial is one
 pub IsPolynomial-drop : (p n i : ℕ) (f : Polynomial) → IsPolynomial p n f → IsPolynomial p n (drop i f)

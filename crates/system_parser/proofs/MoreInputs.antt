@@ -1,13 +1,7 @@
 -- One more line of a text.
-use Rattle.std.proofs.Common.{◌≡◌, ℕ, suc, ◌+◌, List, [], ◌∷◌, ◌++◌, length, Ok, Err, Result, sym, ap, ◌∙◌, add-one}
-use Rattle.polynomials.specs.Polynomials.{Polynomial, IsPolynomial, ArePolynomials}
+use Rattle.std.proofs.Common.{◌≡◌, ℕ, suc, ◌+◌, List, ◌∷◌, length, Ok, Err, Result, sym, ap, ◌∙◌, add-one}
 use Rattle.system_text.specs.Faults.{Refusal}
 use Rattle.system_text.specs.Lines.{TextSystem, Progress, read_line, read_lines, refusal_in}
-
--- polynomials and one more
-pub ArePolynomials-push : (p n : ℕ) (fs : List Polynomial) (f : Polynomial) → ArePolynomials p n fs → IsPolynomial p n f → ArePolynomials p n (fs ++ f ∷ [])
-ArePolynomials-push p n [] f is i = (i, tt)
-ArePolynomials-push p n (g ∷ fs) f is i = (is.0, ArePolynomials-push p n fs f is.1 i)
 
 -- what is left after a line that was read
 pub read_lines-next : (n number end : ℕ) (before after : Progress) (line : List ℕ) (lines rest : List (List ℕ)) (whole : Result TextSystem Refusal) → lines ≡ line ∷ rest → read_line n before line ≡ Ok after → read_lines n number end before lines ≡ whole → read_lines n (number + 1) (length line + 1) after rest ≡ whole

@@ -3,16 +3,14 @@ use Rattle.std.proofs.Common.{◌≡◌, ℕ, zero, suc, ◌+◌, Bool, true, fa
 use Rattle.std.specs.List.{slice_get}
 use Rattle.std.specs.Option.{is_some}
 use Rattle.std.specs.Str.{bytes_eq}
+use Rattle.std.proofs.lemmas.Option.{same_Some}
 use Rattle.system_text.specs.Sums.{place_of_name}
 use Rattle.system_text.specs.Lines.{is_text_of}
 
 -- from the place i on, the item at i comes first
 pub drop_mapped : {A B : Type 0} (f : A → B) (xs : List A) (i : ℕ) (x : A) → slice_get xs i ≡ Some x → drop i (map f xs) ≡ f x ∷ drop (i + 1) (map f xs)
 drop_mapped f [] i x e = cc
-drop_mapped f (y ∷ xs) zero x e = ap (λ z. f z ∷ map f xs) (some_same y x e)
-  where
-    some_same : {A : Type 0} (y x : A) → Some y ≡ Some x → y ≡ x
-    some_same y x e = cc
+drop_mapped f (y ∷ xs) zero x e = ap (λ z. f z ∷ map f xs) (same_Some y x e)
 drop_mapped f (y ∷ xs) (suc i) x e =
     let later : suc i + 1 ≡ suc (i + 1) = omega arith in
     rw later (drop_mapped f xs i x e)

@@ -1,7 +1,7 @@
 -- One more name of an order line.
-use Rattle.std.proofs.Common.{◌≡◌, ℕ, ◌<◌, ◌≤◌, Bool, true, false, cond, leb, eqb, ◌&&◌, ◌||◌, ◌⊎◌, inl, inr, List, [], ◌∷◌, ◌++◌, length, Ok, Err, Result, refl, ap, ◌∙◌, arith}
+use Rattle.std.proofs.Common.{◌≡◌, ℕ, ◌<◌, ◌≤◌, true, false, cond, leb, eqb, ◌&&◌, ◌||◌, inl, inr, List, [], ◌∷◌, ◌++◌, length, Ok, Err, Result, ap, ◌∙◌, arith}
 use Rattle.std.specs.List.{AllByRecursion}
-use Rattle.std.proofs.lemmas.Bool.{and_parts, leb-true, eqb-true}
+use Rattle.std.proofs.lemmas.Bool.{and_parts, leb-true, eqb-true, or_cases}
 use Rattle.std.proofs.lemmas.Bool.Decides.{leb_tells}
 use Rattle.system_text.specs.Characters.{is_letter, is_digit, is_name_character}
 use Rattle.system_text.specs.Tokens.{Placed, Name}
@@ -27,25 +27,21 @@ module _ (n : ℕ) (names : List (List ℕ)) (t : Placed) (x : List ℕ) where
   pub name_is_new : is_text_of reserved_names x ≡ false → length names < n → is_text_of names x ≡ false → with_name n names t (Name x) ≡ Ok (names ++ x ∷ [])
   name_is_new free room new = by_names free room ∙ ap (λ b. cond {A = Result (List (List ℕ)) Fault} b (Err (fault 6 t.first)) (Ok (names ++ x ∷ []))) new
 
-either : (a b : Bool) → (a || b) ≡ true → (a ≡ true) ⊎ (b ≡ true)
-either true b e = inl refl
-either false b e = inr e
-
 -- names are written in ASCII
 small_letter : (b : ℕ) → is_letter b ≡ true → b < 128
-small_letter b e = elim (either (leb 65 b && leb b 90) (leb 97 b && leb b 122) e) [
+small_letter b e = elim (or_cases (leb 65 b && leb b 90) (leb 97 b && leb b 122) e) [
   | inl upper ↦ let most : b ≤ 90 = leb-true b 90 (and_parts (leb 65 b) (leb b 90) upper).1 in omega arith
   | inr lower ↦ let most : b ≤ 122 = leb-true b 122 (and_parts (leb 97 b) (leb b 122) lower).1 in omega arith
 ]
 
 small_other : (b : ℕ) → (is_digit b || eqb b 95) ≡ true → b < 128
-small_other b e = elim (either (is_digit b) (eqb b 95) e) [
+small_other b e = elim (or_cases (is_digit b) (eqb b 95) e) [
   | inl digit ↦ let most : b ≤ 57 = leb-true b 57 (and_parts (leb 48 b) (leb b 57) digit).1 in omega arith
   | inr line ↦ let is : b ≡ 95 = eqb-true b 95 line in omega arith
 ]
 
 small_character : (b : ℕ) → is_name_character b ≡ true → b < 128
-small_character b e = elim (either (is_letter b) (is_digit b || eqb b 95) e) [
+small_character b e = elim (or_cases (is_letter b) (is_digit b || eqb b 95) e) [
   | inl letter ↦ small_letter b letter
   | inr other ↦ small_other b other
 ]

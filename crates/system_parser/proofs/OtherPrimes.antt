@@ -1,31 +1,20 @@
 -- Numbers that are no prime of the table.
-use Rattle.std.proofs.Common.{◌≡◌, ℕ, suc, Bool, true, false, cond, eqb, ltb, ◌||◌, List, [], ◌∷◌, length, Some, None, Err, Result, refl, sym, ap, ◌∙◌, arith}
+use Rattle.std.proofs.Common.{◌≡◌, ℕ, Bool, true, false, cond, ltb, List, length, Some, None, Err, Result, refl, sym, ap, ◌∙◌}
 use Rattle.std.specs.List.{Contains}
 use Rattle.std.specs.Str.Parse.{digits_value}
-use Rattle.std.proofs.lemmas.Bool.{eqb-true}
+use Rattle.std.proofs.lemmas.Bool.{false_from_ne_true}
+use Rattle.std.proofs.lemmas.Option.{same_Some}
 use Rattle.polynomials.specs.Primes.{field_primes}
 use Rattle.system_text.specs.Tokens.{Placed, Number}
 use Rattle.system_text.specs.Faults.{Fault, fault}
 use Rattle.system_text.specs.Limits.{most_digits}
 use Rattle.system_text.specs.Lines.{is_one_of, at_end, prime_number}
+use Rattle.system_text.proofs.Lookups.{contains_from_test}
 use Rattle.system_parser.specs.Numbers.{number_read}
-
-contains_by_test : (y x : ℕ) (ys : List ℕ) (t : Bool) → eqb y x ≡ t → (is_one_of ys x ≡ true → Contains ys x) → (t || is_one_of ys x) ≡ true → Contains (y ∷ ys) x
-contains_by_test y x ys true e later h = (0, omega arith, eqb-true y x e)
-contains_by_test y x ys false e later h = let found = later h in (suc found.0, omega arith, found.2)
-
--- what the test finds is there
-contains_from_test : (ys : List ℕ) (x : ℕ) → is_one_of ys x ≡ true → Contains ys x
-contains_from_test [] x h = cc
-contains_from_test (y ∷ ys) x h = contains_by_test y x ys (eqb y x) refl (contains_from_test ys x) h
 
 -- what isn't there isn't found
 not_found : (ys : List ℕ) (x : ℕ) → (Contains ys x → ⊥) → is_one_of ys x ≡ false
-not_found ys x h = by_test (is_one_of ys x) refl
-  where
-    by_test : (t : Bool) → is_one_of ys x ≡ t → is_one_of ys x ≡ false
-    by_test true e = absurd (h (contains_from_test ys x e))
-    by_test false e = e
+not_found ys x h = false_from_ne_true (is_one_of ys x) (λ e. h (contains_from_test ys x e))
 
 -- the number of a prime line that is no prime of the table
 pub other_prime : (t : Placed) (digits : List ℕ) (ts : List Placed) (p : ℕ) → Some p ≡ number_read digits → (Contains field_primes p → ⊥) → prime_number t (Number digits) ts ≡ Err (fault 3 t.first)
@@ -34,11 +23,8 @@ other_prime t digits ts p read other = by_length (ltb most_digits (length digits
     last_test : (b : Bool) → b ≡ false → cond {A = Result ℕ Fault} b (at_end 2 (digits_value 10 digits) ts) (Err (fault 3 t.first)) ≡ Err (fault 3 t.first)
     last_test b e = ap (λ c. cond {A = Result ℕ Fault} c (at_end 2 (digits_value 10 digits) ts) (Err (fault 3 t.first))) e
 
-    same_number : (a b : ℕ) → Some a ≡ Some b → a ≡ b
-    same_number a b e = cc
-
     by_length : (b : Bool) → ltb most_digits (length digits) ≡ b → Some p ≡ cond b None (Some (digits_value 10 digits)) → prime_number t (Number digits) ts ≡ Err (fault 3 t.first)
     by_length true e is = cc
     by_length false e is =
         ap (λ c. cond c (Err (fault 9 t.first)) (cond (is_one_of field_primes (digits_value 10 digits)) (at_end 2 (digits_value 10 digits) ts) (Err (fault 3 t.first)))) e
-        ∙ last_test (is_one_of field_primes (digits_value 10 digits)) (ap (is_one_of field_primes) (sym (same_number p (digits_value 10 digits) is)) ∙ not_found field_primes p other)
+        ∙ last_test (is_one_of field_primes (digits_value 10 digits)) (ap (is_one_of field_primes) (sym (same_Some p (digits_value 10 digits) is)) ∙ not_found field_primes p other)

@@ -5,9 +5,10 @@ use Rattle.std.proofs.lemmas.Nat.{mul-mod_first}
 use Rattle.polynomials.specs.Primes.{IsPrime}
 use Rattle.polynomials.specs.Monomials.{Monomial, monomial_product}
 use Rattle.polynomials.specs.Polynomials.{Polynomial, term, with_first, collected, product_of}
-use Rattle.polynomials.specs.Fits.{is_exponent_list, greater_exponents, fits, product_so_far, power_within}
+use Rattle.polynomials.specs.Fits.{is_exponent_list, fits, product_so_far, power_within}
 use Rattle.polynomials.proofs.FirstTerms.{with_first_nonzero}
 use Rattle.polynomials.proofs.MonicLemmas.{residue_product_positive}
+use Rattle.polynomials.proofs.FitsLemmas.{greater_exponents-nil}
 use Rattle.system_text.specs.Limits.{text_width}
 use Rattle.system_parser.specs.Powers.{within_exponents, monomial_power}
 use Rattle.system_parser.proofs.RaisedMonomials.{monomial_power-one, monomial_power-add, greater_power}
@@ -26,11 +27,6 @@ power_within-zero p n (suc e) = ap (product_so_far p text_width []) (power_withi
 pub zero_power : (p n e : ℕ) (f : Polynomial) → f ≡ [] → 0 < e → Some f ≡ power_within p n text_width f e
 zero_power p n zero f empty some = absurd (omega arith)
 zero_power p n (suc e) f empty some = ap Some empty ∙ (sym (power_within-zero p n e) ∙ ap (λ g. power_within p n text_width g (suc e)) (sym empty))
-
--- the greater exponents of a monomial and none
-greater_exponents-nil : (m : Monomial) → greater_exponents m [] ≡ m
-greater_exponents-nil [] = refl
-greater_exponents-nil (d ∷ m) = refl
 
 -- two terms fit where the exponents of their product are small
 fits-single : (l m : Monomial) (c d : ℕ) → fits text_width (term l c ∷ []) (term m d ∷ []) ≡ is_exponent_list (monomial_product l m)

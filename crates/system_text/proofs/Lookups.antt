@@ -1,6 +1,6 @@
 -- Tests whether a list has a number or a text.
 use Rattle.std.proofs.Common.{◌≡◌, ℕ, zero, suc, ◌<◌, ◌≤◌, Bool, true, false, ◌||◌, eqb, List, [], ◌∷◌, ◌++◌, length, refl, sym, arith}
-use Rattle.std.proofs.lemmas.Bool.{eqb-true, eq-eqb, or_parts, or_from, false_from_ne_true}
+use Rattle.std.proofs.lemmas.Bool.{eqb-true, eq-eqb, or_parts, or_from, false_from_ne_true, or_left, or_right}
 use Rattle.std.proofs.lemmas.List.Elements.{All-from_recursion, All-contains}
 use Rattle.std.proofs.lemmas.Slice.Eq.{bytes_eq-Decides}
 use Rattle.std.specs.Prelude.{Contains, slice_index_or}
@@ -20,14 +20,6 @@ contains_if false y x ys here there e =
 pub contains_from_test : (xs : List ℕ) (x : ℕ) → is_one_of xs x ≡ true → Contains xs x
 contains_from_test [] x e = absurd cc
 contains_from_test (y ∷ ys) x e = contains_if (eqb y x) y x ys (eqb-true y x) (contains_from_test ys x) e
-
-or_right : (b c : Bool) → c ≡ true → (b || c) ≡ true
-or_right true c e = refl
-or_right false c e = e
-
-or_left : (b c : Bool) → b ≡ true → (b || c) ≡ true
-or_left true c e = refl
-or_left false c e = absurd cc
 
 test_at : (xs : List ℕ) (x k : ℕ) → k < length xs → slice_index_or xs k x ≡ x → is_one_of xs x ≡ true
 test_at [] x k h e = absurd (omega arith)

@@ -14,7 +14,8 @@ use Rattle.report_text.specs.declared.status.Status.{Status}
 use Rattle.report_text.specs.declared.status.Status.TheVariants.{Chains, Stopped, Refused}
 use Rattle.tri_alone.specs.Expected.{Outcome, outcome_of_bytes, outcome_of_input, outcome_of_reading, refusal, most_bytes}
 use Rattle.tri_alone.specs.Solvable.{IsInputSolvable, IsReadingSolvable}
-use Rattle.tri_alone.specs.Runs.{IsExpectedAnswer, Leaves, IsOfSystem, IsOfText}
+use Rattle.tri_alone.specs.Runs.{IsExpectedAnswer, Leaves, IsOfText}
+use Rattle.tri_alone.proofs.Solved.{not_refused}
 
 -- the status of what is written for a text that was read
 abbrev OfText : Status → Type 0
@@ -68,9 +69,6 @@ few_outcome n options bytes h = ap (λ b. cond b (refusal too_long_line) (outcom
 many_outcome : (n : ℕ) (options : Options) (bytes : List ℕ) → most_bytes < length bytes → outcome_of_bytes n options bytes ≡ refusal too_long_line
 many_outcome n options bytes h = ap (λ b. cond b (refusal too_long_line) (outcome_of_reading n options (read_text n bytes))) (many most_bytes bytes h)
 
-refused_of_system : {P : Type 0} → (status : Status) → status ≡ Refused → IsOfSystem status → P
-refused_of_system status e h = absurd (subst (λ s. IsOfSystem s) e h)
-
 -- what is expected of what was read is expected of the input
 pub input_expected : (n : ℕ) (words : List (List ℕ)) (options : Options) (old new : Option (List ℕ)) (input : Input) (outcome : Outcome) → IsCommand false words options → ReadsAll most_bytes old new (Ok input) → outcome ≡ outcome_of_input n options input → IsInputSolvable n input → IfSome old (λ bytes. IsExpectedAnswer n words bytes outcome)
 input_expected n words options None new input outcome command h e solvable = tt
@@ -86,7 +84,7 @@ input_expected n words options (Some bytes) (Some left) (Whole read) outcome com
 input_expected n words options (Some bytes) (Some left) TooLong outcome command h e solvable =
     record {
       expected = inl (record { options = options; command = command; same = e ∙ sym (many_outcome n options bytes (longer bytes h.0 left h.1 h.2)) });
-      solvable = λ status. refused_of_system outcome.status (ap (λ o. o.status) e) status;
+      solvable = λ status. not_refused outcome.status (ap (λ o. o.status) e) status;
     }
 
 -- a status of a text at the end of the input

@@ -18,7 +18,7 @@ use Rattle.tri_alone.specs.Solvable.{IsReadingSolvable}
 use Rattle.tri_alone.specs.Runs.{IsExpectedAnswer, IsSolved, IsOfSystem, Writes}
 
 -- a status of a system is none of the others
-not_refused : {P : Type 0} → (status : Status) → status ≡ Refused → IsOfSystem status → P
+pub not_refused : {P : Type 0} → (status : Status) → status ≡ Refused → IsOfSystem status → P
 not_refused status e h = absurd (subst (λ s. IsOfSystem s) e h)
 
 not_usage : {P : Type 0} → (status : Status) → status ≡ Usage → IsOfSystem status → P

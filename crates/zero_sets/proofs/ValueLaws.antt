@@ -1,6 +1,5 @@
 -- Values at a point of a finite domain, from values in a ring.
-use Rattle.std.proofs.Common.{◌≡◌, ◌≢◌, ◌↔◌, ◌*◌, ◌%◌, ◌<◌, ℕ, zero, suc, List, [], ◌∷◌, ap, ap₂, sym, ◌∙◌, inl, inr, arith}
-use Rattle.std.proofs.Math.Nat.{mul-zero, zero-mod}
+use Rattle.std.proofs.Common.{◌≡◌, ◌≢◌, ◌↔◌, ◌<◌, ℕ, List, [], ◌∷◌, ap, ap₂, sym, ◌∙◌, inl, inr}
 use Rattle.polynomials.specs.Primes.{IsPrime, inverse_of}
 use Rattle.polynomials.specs.Polynomials.{Polynomial, IsPolynomial, sum_of, difference_of, product_of, scaled, constant_of, monic}
 use Rattle.polynomials.specs.Rings.{Ring, natural_in, value}
@@ -8,16 +7,9 @@ use Rattle.polynomials.proofs.RingLaws.{plus_assoc, neg-plus, plus-nil, times-ni
 use Rattle.polynomials.proofs.NaturalsInRings.{natural_in-nonzero}
 use Rattle.polynomials.proofs.InverseLemmas.{inverse_of_is}
 use Rattle.polynomials.proofs.Values.{value-sum_of, value-difference_of, value-product_of, value-scaled, value-constant_of}
+use Rattle.polynomials.proofs.MonicLemmas.{inverse_positive}
 use Rattle.zero_sets.specs.Domains.{Tables, IsFiniteDomain, IsPoint, plus_in, times_in, value_at}
 use Rattle.zero_sets.proofs.TableRings.{Element, table_ring, has_characteristic, is_integral, coordinates, value-table, element_path}
-
--- the inverse isn't 0
-inverse_positive : (p a : ℕ) → IsPrime p → 0 < a → a < p → 0 < inverse_of p a
-inverse_positive p a prime positive below = go (inverse_of p a) (inverse_of_is p a prime positive below).1
-  where
-    go : (b : ℕ) → a * b % p ≡ 1 → 0 < b
-    go zero e = let f = sym (ap (λ u. u % p) (mul-zero a) ∙ zero-mod p) ∙ e in absurd (omega (arith, f))
-    go (suc b) e = omega arith
 
 module _ (p : ℕ) (r : Tables) (domain : IsFiniteDomain p r) (xs : List ℕ) (point : IsPoint r xs) where
   abbrev R : Ring (Element r)
@@ -90,4 +82,6 @@ module _ (p : ℕ) (r : Tables) (domain : IsFiniteDomain p r) (xs : List ℕ) (p
 
   pub value_at-monic : (n : ℕ) (f : Polynomial) → IsPrime p → IsPolynomial p n f → (value_at r xs (monic p f) ≡ r.nil) ↔ (value_at r xs f ≡ r.nil)
   value_at-monic n [] prime i = (λ e. e, λ e. e)
-  value_at-monic n (t ∷ f) prime i = scaled_zeros (inverse_of p t.1) (t ∷ f) prime (inverse_positive p t.1 prime i.1 i.2) (inverse_of_is p t.1 prime i.1 i.2).0
+  value_at-monic n (t ∷ f) prime i =
+      let inverse = inverse_of_is p t.1 prime i.1 i.2 in
+      scaled_zeros (inverse_of p t.1) (t ∷ f) prime (inverse_positive p t.1 (inverse_of p t.1) inverse) inverse.0

@@ -3,6 +3,7 @@ use Rattle.std.proofs.Common.{◌≡◌, ◌∙◌, [], ◌∷◌, sym, ap, subs
 use Rattle.std.proofs.lemmas.Option.{slice_get_within, get_or_from_slice_get}
 use Rattle.mono_words.specs.declared.mono.TheConstants.{VARS}
 use Rattle.polynomials.specs.Polynomials.{Polynomial, monic}
+use Rattle.polynomials.proofs.PolynomialLists.{IsPolynomial-at}
 use Rattle.sparse_poly.proofs.Moduli.{positive_modulus}
 use Rattle.sparse_poly.proofs.SortedTerms.{IfOk-implied}
 use Rattle.common_divisors.specs.Ideals.{IsInIdeal, HaveOneIdeal}
@@ -11,7 +12,7 @@ use Rattle.common_divisors.specs.Coefficients.{AreCoefficients, polynomial_of}
 use Rattle.common_divisors.proofs.CoefficientLemmas.{no_coefficients, IsPolynomial-polynomial_of}
 use Rattle.common_divisors.proofs.DivisorLemmas.{divisor_made, result_univariate}
 use Rattle.common_divisors.proofs.IdealLemmas.{zero_in_ideal}
-use Rattle.common_divisors.proofs.EuclidTurns.{IsPolynomial-at, next_member, next_divides, divides_each}
+use Rattle.common_divisors.proofs.EuclidTurns.{next_member, next_divides, divides_each}
 use Rattle.common_divisors.proofs.divisor.common_divisor.Goals as goal
 use Rattle.common_divisors.proofs.divisor.common_divisor.Goals.{After-drop-divisor-2}
 

@@ -3,7 +3,7 @@ use Rattle.std.proofs.Common.{◌≡◌, ◌-◌, [], IfOk, sym, subst}
 use Rattle.std.proofs.lemmas.Option.{get_or_from_slice_get}
 use Rattle.mono_words.specs.declared.mono.TheConstants.{VARS}
 use Rattle.polynomials.specs.Polynomials.{Polynomial, monic}
-use Rattle.pseudo_division.proofs.Lists.{IsPolynomial-at}
+use Rattle.polynomials.proofs.PolynomialLists.{IsPolynomial-at}
 use Rattle.intersect.proofs.children.monic_lead.Goals as goal
 
 pub monic-requires : goal.monic-requires

@@ -1,10 +1,10 @@
 -- The lead at the place is added.
 use Rattle.std.proofs.Common.{sym, ap, ◌∙◌, take}
+use Rattle.polynomials.proofs.PolynomialLists.{IsPolynomial-at}
 use Rattle.mono_words.specs.declared.mono.TheConstants.{VARS}
 use Rattle.zero_sets.specs.Tasks.{with_nonzero}
 use Rattle.impose_rules.specs.Leads.{with_all_nonzero}
 use Rattle.impose_rules.proofs.LeadPlaces.{with_all-one_more}
-use Rattle.pseudo_division.proofs.Lists.{IsPolynomial-at}
 use Rattle.regular_gcd.proofs.NonzeroLeads.{nonzero_at}
 use Rattle.intersect.proofs.Lists.{take_more}
 use Rattle.intersect.proofs.children.with_leads.Goals as goal

@@ -1,11 +1,13 @@
 -- Each member is passed over, or divided by as often as need be.
 use Rattle.std.proofs.Common.{◌∙◌, ◌+◌, drop, refl, sym, ap, subst, arith}
+use Rattle.std.proofs.lemmas.Bool.{false_from_ne_true}
 use Rattle.mono_words.specs.declared.mono.TheConstants.{VARS}
 use Rattle.polynomials.specs.Polynomials.{IsPolynomial}
 use Rattle.polynomials.specs.Views.{is_constant}
+use Rattle.polynomials.proofs.PolynomialLists.{IsPolynomial-at}
 use Rattle.division_rules.specs.Quotients.{without_factors, factor_bound}
 use Rattle.division_rules.proofs.Factors.{IsPolynomial-without_factor, without_factor_nonzero}
-use Rattle.poly_quotient.proofs.Members.{not_true, IsPolynomial-got, without_factors_of_zero, member_passed, member_divided, members_end}
+use Rattle.poly_quotient.proofs.Members.{without_factors_of_zero, member_passed, member_divided, members_end}
 use Rattle.poly_quotient.proofs.factors.strip.Goals as goal
 use Rattle.poly_quotient.proofs.factors.strip.Goals.{then-not-is_constant+in_ok-left-2, else-not-is_constant}
 
@@ -25,17 +27,17 @@ pub without-requires-clause-left : goal.without-requires-clause-left
 without-requires-clause-left c = c.loop-i.invariant.1
 
 pub without-requires-clause-right : goal.without-requires-clause-right
-without-requires-clause-right c = IsPolynomial-got c.args.w.field VARS c.args.list.now c.loop-i.i c.at-b.result.now c.requires.members c.at-b.ensures
+without-requires-clause-right c = IsPolynomial-at c.args.w.field VARS c.args.list.now c.loop-i.i c.at-b.result.now c.requires.members c.at-b.ensures
 
 pub without-requires-clause-some : goal.without-requires-clause-some
 without-requires-clause-some c = c.loop-i.invariant.0
 
 pub loop-i-preserved : goal.loop-i-preserved
 loop-i-preserved c =
-    let ib = IsPolynomial-got c.args.w.field VARS c.args.list.now c.loop-i.i c.at-b.result.now c.requires.members c.at-b.ensures in
+    let ib = IsPolynomial-at c.args.w.field VARS c.args.list.now c.loop-i.i c.at-b.result.now c.requires.members c.at-b.ensures in
     elim c.if-not-is_constant.branch [
       | then-not-is_constant+in_ok-left-2 w ↦
-          let varies = not_true (is_constant c.at-b.result.now) (λ e. let f = w.if-not-is_constant.ensures.1 e in cc) in
+          let varies = false_from_ne_true (is_constant c.at-b.result.now) (λ e. let f = w.if-not-is_constant.ensures.1 e in cc) in
           let next = w.left-is ∙ w.in_ok-left-2.ensures in (
             (λ e. without_factor_nonzero c.args.w.field VARS c.args.w.width c.prime.ensures.prime c.at-b.result.now c.loop-i.left (factor_bound c.loop-i.left) ib c.loop-i.invariant.1 c.loop-i.invariant.0 (sym next ∙ e)),
             subst (IsPolynomial c.args.w.field VARS) (sym next) (IsPolynomial-without_factor c.args.w.field VARS c.args.w.width c.prime.ensures.prime c.at-b.result.now c.loop-i.left (factor_bound c.loop-i.left) ib c.loop-i.invariant.1),

@@ -6,9 +6,10 @@ use Rattle.polynomials.specs.Views.{main_var}
 use Rattle.division_rules.specs.Lists.{variable_or_zero}
 use Rattle.division_rules.specs.Rows.{plain, plains, is_reduced_by}
 use Rattle.division_rules.specs.Within.{reduction_within}
+use Rattle.division_rules.proofs.Up.{plains_canonical}
 use Rattle.pseudo_division.specs.FieldOperations.{operations}
 use Rattle.pseudo_division.proofs.ChainTurns.{variable_at, reduction_within-turn}
-use Rattle.pseudo_division.proofs.PlainRows.{plains_canonical, plains-at, length-plains, reduced_stays}
+use Rattle.pseudo_division.proofs.PlainRows.{plains-at, length-plains, reduced_stays}
 use Rattle.pseudo_division.proofs.plain.members_left.Goals as goal
 
 pub loop-i-init : goal.loop-i-init

@@ -3,13 +3,14 @@ use Rattle.std.proofs.Common.{◌≡◌, ◌-◌, Option, Some, None, IfSome, op
 use Rattle.mono_words.specs.declared.mono.TheConstants.{VARS}
 use Rattle.polynomials.specs.Polynomials.{Polynomial, IsPolynomial}
 use Rattle.polynomials.specs.Views.{main_var}
+use Rattle.polynomials.proofs.PolynomialLists.{IsPolynomial-at}
 use Rattle.division_rules.specs.Lists.{variable_or_zero}
 use Rattle.division_rules.specs.Rows.{plain, plains}
 use Rattle.division_rules.specs.Within.{sparse_remainder_within}
+use Rattle.division_rules.proofs.Up.{plains_canonical}
 use Rattle.pseudo_division.specs.FieldOperations.{operations}
-use Rattle.pseudo_division.proofs.Lists.{IsPolynomial-at}
 use Rattle.pseudo_division.proofs.ChainTurns.{occurs_at, variable_at, reduction_within-turn, reduction_within-none}
-use Rattle.pseudo_division.proofs.PlainRows.{plains_canonical, plains-at}
+use Rattle.pseudo_division.proofs.PlainRows.{plains-at}
 use Rattle.pseudo_division.proofs.plain.reduced_further.Goals as goal
 
 pub sparse_remainder-requires-clause-right : goal.sparse_remainder-requires-clause-right

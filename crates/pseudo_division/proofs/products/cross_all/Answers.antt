@@ -2,9 +2,10 @@
 use Rattle.std.proofs.Common.{◌≡◌, ◌+◌, ◌++◌, [], ◌∷◌, length, drop, List, Some, None, sym, subst, ap, ◌∙◌, length-append, arith}
 use Rattle.mono_words.specs.declared.mono.TheConstants.{VARS}
 use Rattle.polynomials.specs.Polynomials.{Polynomial}
+use Rattle.polynomials.proofs.PolynomialLists.{IsPolynomial-at}
 use Rattle.division_rules.specs.Within.{cross_within, cross_all_within}
 use Rattle.pseudo_division.specs.FieldOperations.{operations}
-use Rattle.pseudo_division.proofs.Lists.{IsMade, IsPolynomial-at}
+use Rattle.pseudo_division.proofs.Lists.{IsMade}
 use Rattle.pseudo_division.proofs.Entries.{cross_all_more, cross_all_none}
 use Rattle.pseudo_division.proofs.products.cross_all.Goals as goal
 

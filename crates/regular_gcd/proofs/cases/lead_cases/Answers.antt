@@ -1,9 +1,9 @@
 -- Each lead is known by then, or new and makes a case.
 use Rattle.std.proofs.Common.{◌++◌, drop, sym, ap, ◌∙◌, arith}
+use Rattle.polynomials.proofs.PolynomialLists.{IsPolynomial-at}
 use Rattle.zero_sets.specs.Tasks.{with_nonzero}
 use Rattle.mono_words.specs.declared.mono.TheConstants.{VARS}
 use Rattle.impose_rules.specs.Leads.{lead_cases, unknown_from}
-use Rattle.pseudo_division.proofs.Lists.{IsPolynomial-at}
 use Rattle.regular_gcd.proofs.NonzeroLeads.{nonzero_at}
 use Rattle.regular_gcd.proofs.NewLeads.{cases_begin, case_passed, case_added, cases_end}
 use Rattle.regular_gcd.proofs.cases.lead_cases.Goals as goal

@@ -2,8 +2,8 @@
 use Rattle.std.proofs.Common.{sym, subst}
 use Rattle.mono_words.specs.declared.mono.TheConstants.{VARS}
 use Rattle.polynomials.specs.Polynomials.{ArePolynomials}
+use Rattle.polynomials.proofs.PolynomialLists.{ArePolynomials-push}
 use Rattle.system_parser.specs.Systems.{IsProgress}
-use Rattle.system_parser.proofs.MoreInputs.{ArePolynomials-push}
 use Rattle.system_parser.proofs.text.Progress.read_content.Goals as goal
 
 pub returns-in_ok-push-in-AtSums-clause-over : goal.returns-in_ok-push-in-AtSums-clause-over
