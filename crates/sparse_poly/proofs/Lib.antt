@@ -12,3 +12,4 @@ pub mod FirstVariables
 pub mod ValueClauses
 pub mod FirstItems
 pub mod PowerMonomials
+pub mod Leads

@@ -1,8 +1,8 @@
 -- A power of a variable fits with monomials where the degree has room.
-use Rattle.std.proofs.Common.{◌≡◌, ◌≢◌, ◌+◌, ◌<◌, ◌≤◌, ℕ, max, List, [], ◌∷◌, replicate, set, sym, ap, ◌∙◌, inl, inr, subst, arith}
+use Rattle.std.proofs.Common.{◌+◌, ◌<◌, ◌≤◌, ℕ, List, sym, inl, inr, subst, arith}
 use Rattle.std.proofs.lemmas.Bool.{cases_eq}
-use Rattle.polynomials.specs.Monomials.{Monomial, exponent_of}
-use Rattle.polynomials.specs.Polynomials.{Term, term}
+use Rattle.polynomials.specs.Monomials.{exponent_of}
+use Rattle.polynomials.specs.Polynomials.{Term}
 use Rattle.polynomials.specs.Views.{degree_in}
 use Rattle.polynomials.proofs.Exponents.{power_monomial, exponent_of-power_monomial, exponent_of-power_monomial_other}
 use Rattle.sparse_poly.specs.Pairs.{FitsEach}

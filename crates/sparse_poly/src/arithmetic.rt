@@ -4,7 +4,7 @@ ghost use Rattle.polynomials.specs.Views.{degree_in};
 ghost use Rattle.polynomials.specs.Fits.{fits};
 ghost use Rattle.sparse_poly.specs.Values.{HasValueOfSum, HasValueOfDifference, HasValueOfProduct, HasZerosOf};
 
-use crate::fits::{degrees, fits};
+use crate::fits::{fits, tell_exponents};
 use crate::merge::{Sign, merged};
 use crate::poly::Poly;
 use crate::product::{product, scaled, term_times};
@@ -71,8 +71,7 @@ impl Poly {
     {
         // Tells that 1 is a residue.
         let _ = f.prime();
-        // Tells that exponents have 16 bits.
-        degrees(self.terms()).shape();
+        tell_exponents(self.terms());
         let terms = term_times(self.alloc(), f, (Mono::power(v, e), 1), self.terms())?;
         Ok(Poly::over(f, terms))
     }

@@ -1,4 +1,4 @@
-ghost use Rattle.std.specs.Prelude.{IfOk};
+ghost use Rattle.std.specs.Prelude.{◌<◌, IfOk};
 ghost use Rattle.polynomials.specs.Polynomials.{IsPolynomial};
 
 use super::*;
@@ -50,6 +50,60 @@ fn operations_agree_with_sums_done_by_hand(rt: HostRuntime) -> Result<(), Fail> 
     assert!(rt; three.is_constant());
     assert_eq!(rt; curve.degree_in(1), 2);
     assert_eq!(rt; curve.term_count(), 3);
+    Ok(())
+}
+
+/// Whether the degree, the lead and the tail in `v` are these.
+fn has_views(
+    alloc: Global,
+    f: Field,
+    whole: &[(u32, u16, u16, u16)],
+    v: usize,
+    degree: u16,
+    lead: &[(u32, u16, u16, u16)],
+    tail: &[(u32, u16, u16, u16)],
+) -> Result<bool, AllocError>
+    requires { v < VARS }
+{
+    let whole = poly(alloc, f, whole)?;
+    let lead = poly(alloc, f, lead)?;
+    let tail = poly(alloc, f, tail)?;
+    Ok(whole.degree_in(v) == degree && whole.lead_in(v)? == lead && whole.tail_in(v)? == tail)
+}
+
+#[test]
+fn views_agree_with_terms_taken_apart_by_hand(rt: HostRuntime) -> Result<(), Fail> {
+    let alloc = rt.alloc();
+    let f = Field::of(7)?;
+    // 2 x y^2 + 3 y^2 + x^3 y + 5 x^3 + 6 x + 1, whose main variable is y
+    let whole = [
+        (2, 1, 2, 0),
+        (3, 0, 2, 0),
+        (1, 3, 1, 0),
+        (5, 3, 0, 0),
+        (6, 1, 0, 0),
+        (1, 0, 0, 0),
+    ];
+    let lead_in_x = [(1, 0, 1, 0), (5, 0, 0, 0)];
+    let tail_in_x = [(2, 1, 2, 0), (3, 0, 2, 0), (6, 1, 0, 0), (1, 0, 0, 0)];
+    let lead_in_y = [(2, 1, 0, 0), (3, 0, 0, 0)];
+    let tail_in_y = [(1, 3, 1, 0), (5, 3, 0, 0), (6, 1, 0, 0), (1, 0, 0, 0)];
+    assert!(rt; has_views(alloc, f, &whole, 0, 3, &lead_in_x, &tail_in_x)?);
+    assert!(rt; has_views(alloc, f, &whole, 1, 2, &lead_in_y, &tail_in_y)?);
+    assert!(rt; has_views(alloc, f, &whole, 2, 0, &whole, &[])?);
+    assert!(rt; has_views(alloc, f, &whole, VARS - 1, 0, &whole, &[])?);
+
+    // x y + y + x, where another term stands between those with x
+    let apart = [(1, 1, 1, 0), (1, 0, 1, 0), (1, 1, 0, 0)];
+    let y_and_one = [(1, 0, 1, 0), (1, 0, 0, 0)];
+    let x_and_one = [(1, 1, 0, 0), (1, 0, 0, 0)];
+    assert!(rt; has_views(alloc, f, &apart, 0, 1, &y_and_one, &[(1, 0, 1, 0)])?);
+    assert!(rt; has_views(alloc, f, &apart, 1, 1, &x_and_one, &[(1, 1, 0, 0)])?);
+
+    let three = [(3, 0, 0, 0)];
+    assert!(rt; has_views(alloc, f, &[], 0, 0, &[], &[])?);
+    assert!(rt; has_views(alloc, f, &three, 0, 0, &three, &[])?);
+    assert!(rt; has_views(alloc, f, &[(3, 0, 2, 1)], 1, 2, &[(3, 0, 0, 1)], &[])?);
     Ok(())
 }
 

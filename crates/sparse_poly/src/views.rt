@@ -1,10 +1,10 @@
-ghost use Rattle.std.specs.Prelude.{◌≡◌, ◌<◌, ◌↔◌, ℕ, true, IfOk, IsTrue};
+ghost use Rattle.std.specs.Prelude.{◌≡◌, ◌<◌, ◌≤◌, ◌↔◌, ℕ, true, [], length, drop, IfOk, IsTrue};
 ghost use Rattle.polynomials.specs.Polynomials.{IsPolynomial};
-ghost use Rattle.polynomials.specs.Views.{degree_in, lead_in, tail_in, main_var, is_constant};
+ghost use Rattle.polynomials.specs.Views.{degree_in, coefficient_in, lead_in, tail_in, main_var, is_constant, IsFreeOf};
 ghost use Rattle.sparse_poly.specs.Values.{SplitsValue};
 
 use crate::poly::Poly;
-use mono_words::VARS;
+use mono_words::{Mono, VARS};
 use std::alloc::AllocError;
 
 impl Poly {
@@ -30,11 +30,11 @@ impl Poly {
         requires { v < VARS }
         ensures { result ≡ degree_in v self.now }
     {
-        let mut degree = 0;
-        for t in self.terms() {
-            degree = degree.max(t.0.exponent(v));
+        match self.terms().first() {
+            // Where no greater variable occurs, the exponents of `v` fall.
+            Some(first) if self.is_free_above(v) => first.0.exponent(v),
+            _ => greatest_exponent(self.terms(), v),
         }
-        degree
     }
 
     /// The coefficient of the greatest power of `v`, and 0 for the polynomial 0.
@@ -43,8 +43,9 @@ impl Poly {
         ensures lead { IfOk result (λ r. r ≡ lead_in v self.now) }
     {
         let degree = self.degree_in(v);
-        let mut terms = Vec::new(self.alloc());
-        for t in self.terms() {
+        let end = self.lead_end(v, degree);
+        let mut terms = Vec::with_capacity(self.alloc(), end)?;
+        for t in &self.terms()[..end] {
             if t.0.exponent(v) == degree {
                 terms.push((t.0.without(v), t.1))?;
             }
@@ -59,12 +60,54 @@ impl Poly {
         ensures values { IfOk result (λ r. (p : ℕ) → SplitsValue p v self.now (lead_in v self.now) r) }
     {
         let degree = self.degree_in(v);
+        let end = self.lead_end(v, degree);
         let mut terms = Vec::new(self.alloc());
-        for t in self.terms() {
+        for t in &self.terms()[..end] {
             if t.0.exponent(v) != degree {
                 terms.push(*t)?;
             }
         }
+        terms.extend_from_slice(&self.terms()[end..])?;
         Ok(Poly::of(terms))
     }
+
+    /// Whether no variable greater than `v` occurs.
+    fn is_free_above(&self, v: usize) -> bool
+        ensures { IsTrue result ↔ ((w : ℕ) → v < w → IsFreeOf w self.now) }
+    {
+        match self.main_var() {
+            None => true,
+            Some(main) => main <= v,
+        }
+    }
+
+    /// A place from which on no term has the greatest power of `v`: where no greater variable
+    /// occurs, the first such place.
+    fn lead_end(&self, v: usize, degree: u16) -> usize
+        requires variable { v < VARS }
+        requires degree { degree ≡ degree_in v self.now }
+        ensures within { result ≤ length self.now }
+        ensures rest { coefficient_in v degree (drop result self.now) ≡ [] }
+    {
+        let terms = self.terms();
+        if !self.is_free_above(v) {
+            return terms.len();
+        }
+        match terms.iter().position(|t| t.0.exponent(v) != degree) {
+            Some(end) => end,
+            None => terms.len(),
+        }
+    }
+}
+
+/// The greatest exponent of `v`, and 0 where there is no term.
+fn greatest_exponent(terms: &[(Mono, u32)], v: usize) -> u16
+    requires { v < VARS }
+    ensures { result ≡ degree_in v terms.now }
+{
+    let mut greatest = 0;
+    for t in terms {
+        greatest = greatest.max(t.0.exponent(v));
+    }
+    greatest
 }

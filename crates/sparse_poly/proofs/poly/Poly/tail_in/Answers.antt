@@ -1,24 +1,30 @@
 -- The terms that are taken are canonical as they stand, and the rest of what the lead makes up.
-use Rattle.std.proofs.Common.{◌^◌, refl, sym, ◌∙◌, ap, subst}
+use Rattle.std.proofs.Common.{◌^◌, ◌++◌, ◌∙◌, drop, ap, sym, subst}
 use Rattle.mono_words.specs.declared.mono.TheConstants.{VARS}
 use Rattle.polynomials.specs.Polynomials.{IsPolynomial}
-use Rattle.polynomials.specs.Views.{without_power}
+use Rattle.polynomials.specs.Views.{degree_in}
 use Rattle.polynomials.proofs.Coefficients.{IsPolynomial-without_power}
-use Rattle.sparse_poly.proofs.Passes.{pass_end}
+use Rattle.sparse_poly.proofs.Places.{take_rest}
+use Rattle.sparse_poly.proofs.Leads.{tail_found}
 use Rattle.sparse_poly.proofs.ValueClauses.{splits_value}
 use Rattle.sparse_poly.proofs.poly.Poly.tail_in.Goals as goal
 
 pub of-requires : goal.of-requires
 of-requires c =
+    let rest = take_rest c.terms-2.result.now c.lead_end-end.result ∙ ap (drop c.lead_end-end.result) (c.terms-2.ensures.terms ∙ sym c.terms.ensures.terms) in
     subst (IsPolynomial (2 ^ 32) VARS)
-    (sym (pass_end (without_power c.args.v c.degree_in-degree.result) refl c.loop-t.terms.items c.terms-t-items.result.now _ c.loop-t.t-index c.loop-t-test.false c.loop-t.invariant
-    ∙ ap (without_power c.args.v c.degree_in-degree.result) c.terms-t-items.ensures.terms))
-    (IsPolynomial-without_power c.args.v c.degree_in-degree.result (2 ^ 32) VARS c.args.self.now c.terms-t-items.ensures.canonical)
+    (sym (c.in_ok-extend_from_slice.ensures.items
+    ∙ (ap (λ l. c.loop-t.terms.items ++ l) rest
+    ∙ tail_found c.args.v c.degree_in-degree.result c.lead_end-end.result c.loop-t.t-index c.args.self.now c.terms.result.now c.loop-t.terms.items c.terms.ensures.terms c.degree_in-degree.ensures c.lead_end-end.ensures.rest c.loop-t-test.false c.loop-t.invariant)))
+    (IsPolynomial-without_power c.args.v (degree_in c.args.v c.args.self.now) (2 ^ 32) VARS c.args.self.now c.terms.ensures.canonical)
+
+pub returns-clause-tail : goal.returns-clause-tail
+returns-clause-tail c =
+    let rest = take_rest c.terms-2.result.now c.lead_end-end.result ∙ ap (drop c.lead_end-end.result) (c.terms-2.ensures.terms ∙ sym c.terms.ensures.terms) in
+    c.of.ensures
+    ∙ (c.in_ok-extend_from_slice.ensures.items
+    ∙ (ap (λ l. c.loop-t.terms.items ++ l) rest
+    ∙ tail_found c.args.v c.degree_in-degree.result c.lead_end-end.result c.loop-t.t-index c.args.self.now c.terms.result.now c.loop-t.terms.items c.terms.ensures.terms c.degree_in-degree.ensures c.lead_end-end.ensures.rest c.loop-t-test.false c.loop-t.invariant))
 
 pub returns-clause-values : goal.returns-clause-values
-returns-clause-values c =
-    λ p. splits_value p c.args.v c.args.self.now c.of.result
-    (c.of.ensures
-    ∙ (pass_end (without_power c.args.v c.degree_in-degree.result) refl c.loop-t.terms.items c.terms-t-items.result.now _ c.loop-t.t-index c.loop-t-test.false c.loop-t.invariant
-    ∙ (ap (without_power c.args.v c.degree_in-degree.result) c.terms-t-items.ensures.terms
-    ∙ ap (λ d. without_power c.args.v d c.args.self.now) c.degree_in-degree.ensures)))
+returns-clause-values c = λ p. splits_value p c.args.v c.args.self.now c.of.result (returns-clause-tail c)
