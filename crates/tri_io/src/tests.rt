@@ -153,6 +153,21 @@ fn all_is_written_or_a_proper_front(rt: HostRuntime) -> Result<(), Fail> {
 }
 
 #[test]
+fn no_call_follows_the_one_that_ends(rt: HostRuntime) -> Result<(), Fail> {
+    let alloc = rt.alloc();
+    // Two calls take all bytes, so that the next one is the third.
+    let mut sink = MemSink::new(alloc, 100, 4, vec![in alloc; 3; 1]?)?;
+    assert_eq!(rt; write_all(&mut sink, LETTERS), Ok(()));
+    assert_eq!(rt; sink.write(LETTERS), Err(Failed));
+
+    // Two calls give all bytes, and the third meets the end.
+    let mut source = MemSource::new(LETTERS.to_vec(alloc)?, 4, vec![in alloc; 4; 1]?);
+    check_read(&rt, alloc, &mut source, 100, Want::Whole, LETTERS)?;
+    assert_eq!(rt; source.read(&mut [0; 3]), Err(Failed));
+    Ok(())
+}
+
+#[test]
 fn a_failed_call_may_be_made_again(rt: HostRuntime) -> Result<(), Fail> {
     let alloc = rt.alloc();
     let mut buf = [0; 3];
