@@ -1,5 +1,5 @@
 -- Keys: the events and the offers of one tree, and what is true of them.
-use Rattle.std.specs.Prelude.{◌≡◌, List, Contains}
+use Rattle.std.specs.Prelude.{◌≡◌, List, [], Contains}
 use Rattle.std.specs.List.{AllByRecursion}
 use Rattle.split_paths.specs.declared.event.Event.{Event}
 use Rattle.split_paths.specs.declared.splitter.Step.{Step}
@@ -14,10 +14,11 @@ IsTrueEvent events event = Contains events event
 abbrev pub IsTrueOffer : {T : Type 0} → List (Place T) → Place T → Type 0
 IsTrueOffer offers offer = Contains offers offer
 
--- a key is that of a tree
+-- a key is that of a tree whose root has the empty path
 pub record IsTreeKey {T L : Type 0} (events : List (Event L)) (offers : List (Place T)) : Type 0 where
   pub step : T → Step T L
   pub root : Place T
+  pub whole : root.path ≡ []
   pub same_events : events ≡ events_of step root
   pub same_offers : offers ≡ offers_of step root
 
