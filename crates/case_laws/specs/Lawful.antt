@@ -3,15 +3,16 @@ use Rattle.std.specs.Prelude.{ℕ, ◌≤◌, List}
 use Rattle.std.specs.List.{AllByRecursion}
 use Rattle.polynomials.specs.Polynomials.{Polynomial, IsPolynomial}
 use Rattle.polynomials.specs.Views.{degree_in, IsFreeOf}
+use Rattle.polynomials.specs.Fits.{most_exponent}
 use Rattle.zero_sets.specs.ZeroSets.{IsTriangular}
 use Rattle.zero_sets.specs.Tasks.{Task}
 
--- a canonical polynomial in n variables modulo p, of which only the k least occur, with degrees of at
--- most 65,535
+-- a canonical polynomial in n variables modulo p, of which only the k least occur, and whose degrees
+-- are no greater than the greatest exponent
 pub record IsLawfulPolynomial (p n k : ℕ) (f : Polynomial) : Type 0 where
   pub canonical : IsPolynomial p n f
   pub named : (v : ℕ) → k ≤ v → IsFreeOf v f
-  pub small : (v : ℕ) → degree_in v f ≤ 65535
+  pub small : (v : ℕ) → degree_in v f ≤ most_exponent
 
 -- each of them is one
 abbrev pub AreLawfulPolynomials : ℕ → ℕ → ℕ → List Polynomial → Type 0

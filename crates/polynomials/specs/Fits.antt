@@ -1,6 +1,7 @@
 -- Products that fit a width, and powers made by them.
 use Rattle.std.specs.Prelude.{ℕ, zero, suc, ◌*◌, max, Bool, true, false, ◌&&◌, ◌||◌, leb, [], ◌∷◌, length, Option, Some, None}
 use Rattle.polynomials.specs.Monomials.{Monomial, monomial_product}
+pub use Rattle.polynomials.specs.Monomials.{most_exponent}
 use Rattle.polynomials.specs.Polynomials.{Polynomial, product_of, one_of, is_zero}
 
 -- the greater exponent of each variable
@@ -14,13 +15,13 @@ abbrev pub degrees : Polynomial → Monomial
 degrees [] = []
 degrees (t ∷ f) = greater_exponents t.0 (degrees f)
 
--- no exponent is greater than 65,535
+-- no exponent is greater than the greatest that is allowed
 abbrev pub is_exponent_list : Monomial → Bool
 is_exponent_list [] = true
-is_exponent_list (e ∷ m) = leb e 65535 && is_exponent_list m
+is_exponent_list (e ∷ m) = leb e most_exponent && is_exponent_list m
 
 -- f times g fits the width w: a factor is 0, or the numbers of terms have a product of at most w
--- and in each variable the degrees add to at most 65,535
+-- and in each variable the degrees add to at most the greatest exponent
 abbrev pub fits : ℕ → Polynomial → Polynomial → Bool
 fits w f g = is_zero f || (is_zero g || (leb (length f * length g) w && is_exponent_list (monomial_product (degrees f) (degrees g))))
 

@@ -4,7 +4,7 @@ use Rattle.polynomials.specs.Primes.{IsPrime, IsInverse, field_primes, inverse_o
 use Rattle.polynomials.specs.Monomials.{monomial_product}
 use Rattle.polynomials.specs.Polynomials.{Term, term, Polynomial, IsPolynomial, sum_of, product_of, negative_of, one_of, variable_power, monic}
 use Rattle.polynomials.specs.Views.{degree_in, lead_in, tail_in, main_var, IsFreeOf}
-use Rattle.polynomials.specs.Fits.{fits, power_of, power_within}
+use Rattle.polynomials.specs.Fits.{most_exponent, fits, power_of, power_within}
 
 -- the polynomials in n variables modulo p: closed under the operations, and a commutative ring
 pub record MakeARing (p n : ℕ) : Type 0 where
@@ -76,7 +76,7 @@ MonicIsMonic = (p n : ℕ) (t : Term) (f : Polynomial) → IsPrime p → IsPolyn
 
 -- what it is to fit, variable by variable
 abbrev pub FitsInEachVariable : Type 0
-FitsInEachVariable = (w : ℕ) (f g : Polynomial) → (fits w f g ≡ true) ↔ ((f ≡ []) ⊎ ((g ≡ []) ⊎ ((length f * length g ≤ w) × ((v : ℕ) → degree_in v f + degree_in v g ≤ 65535))))
+FitsInEachVariable = (w : ℕ) (f g : Polynomial) → (fits w f g ≡ true) ↔ ((f ≡ []) ⊎ ((g ≡ []) ⊎ ((length f * length g ≤ w) × ((v : ℕ) → degree_in v f + degree_in v g ≤ most_exponent))))
 
 -- a power within a width is the power
 abbrev pub PowerWithinIsPower : Type 0

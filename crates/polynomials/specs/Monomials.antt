@@ -36,9 +36,13 @@ monomial_product (d ∷ l) (e ∷ m) = (d + e) ∷ monomial_product l m
 abbrev pub MonomialDivides : Monomial → Monomial → Type 0
 MonomialDivides l m = (v : ℕ) → exponent_of v l ≤ exponent_of v m
 
--- no exponent of the product passes 65,535
+-- the greatest exponent that is allowed: 16 bits hold it
+abbrev pub most_exponent : ℕ
+most_exponent = 65535
+
+-- no exponent of the product passes that
 abbrev pub ExponentsFit : Monomial → Monomial → Type 0
-ExponentsFit l m = (v : ℕ) → exponent_of v l + exponent_of v m ≤ 65535
+ExponentsFit l m = (v : ℕ) → exponent_of v l + exponent_of v m ≤ most_exponent
 
 -- the greatest variable of e ∷ m, where that of m is known and the variables of m count from 1
 abbrev pub greatest_of : ℕ → Option ℕ → Option ℕ

@@ -3,8 +3,9 @@ use Rattle.std.specs.Prelude.{◌≡◌, ℕ, ◌^◌, ◌<◌, ◌≤◌, List,
 use Rattle.std.specs.List.{AllByRecursion}
 use Rattle.polynomials.specs.Polynomials.{Term, Polynomial, IsPolynomial}
 use Rattle.polynomials.specs.Views.{degree_in}
+use Rattle.polynomials.specs.Fits.{most_exponent}
 use Rattle.system_text.specs.Laws.{IsNamedPolynomial}
-use Rattle.system_text.specs.Limits.{most_digits, most_exponent}
+use Rattle.system_text.specs.Limits.{most_digits}
 use Rattle.system_text.specs.Sums.{Setting, read_sum}
 use Rattle.system_text.specs.Systems.{SpellsSum, AreNames}
 use Rattle.report_text.specs.Polynomials.{poly_text}

@@ -2,10 +2,10 @@
 use Rattle.std.proofs.Common.{◌≡◌, ℕ, ◌%◌, Bool, true, false, cond, ltb, leb, List, [], ◌∷◌, length, map, Option, Some, None, Result, Ok, Err, refl, sym, ap, ap₂, ◌∙◌}
 use Rattle.std.specs.Str.Parse.{digits_value}
 use Rattle.polynomials.specs.Polynomials.{Polynomial, constant_of}
-use Rattle.polynomials.specs.Fits.{power_within}
+use Rattle.polynomials.specs.Fits.{most_exponent, power_within}
 use Rattle.system_text.specs.Tokens.{Token, Placed, Name, Number, Plus, Minus, Times, Power, Open, Close, unplaced}
 use Rattle.system_text.specs.Faults.{Fault, fault}
-use Rattle.system_text.specs.Limits.{most_digits, most_exponent, most_depth, text_width}
+use Rattle.system_text.specs.Limits.{most_digits, most_depth, text_width}
 use Rattle.system_text.specs.Sums.{Setting, Frame, Mode, Reading, AtSum, AtFactor, AfterBase, AtExponent, AfterFactor, empty_frame, times_within, after_base, at_factor, at_sum, variable_at, after_factor_at, closed_at, after_factor, after_base_token, raised, at_exponent, step_in, step, ended_bare, ended_in, ended, read_tokens}
 
 -- a token without a place

@@ -3,10 +3,10 @@ use Rattle.std.proofs.Common.{◌≡◌, ℕ, ◌%◌, ◌<◌, ◌≤◌, Bool,
 use Rattle.std.proofs.lemmas.Bool.{le-ltb, lt-leb}
 use Rattle.std.specs.Str.Parse.{digits_value}
 use Rattle.polynomials.specs.Polynomials.{Polynomial, constant_of}
-use Rattle.polynomials.specs.Fits.{power_within}
+use Rattle.polynomials.specs.Fits.{most_exponent, power_within}
 use Rattle.system_text.specs.Tokens.{Token, Name, Number, Plus, Minus, Times, Power, Open, Close}
 use Rattle.system_text.specs.Faults.{Fault, fault}
-use Rattle.system_text.specs.Limits.{most_digits, most_exponent, most_power, most_depth, text_width}
+use Rattle.system_text.specs.Limits.{most_digits, most_power, most_depth, text_width}
 use Rattle.system_text.specs.Sums.{Setting, Frame, Mode, Reading, AtSum, AtFactor, AfterBase, AfterFactor, empty_frame, times_within, with_last, after_base, raised, read_tokens}
 use Rattle.system_text.proofs.Places.{bare}
 

@@ -3,9 +3,10 @@ use Rattle.std.proofs.Common.{◌≡◌, ℕ, ◌%◌, true, ltb, leb, List, [],
 use Rattle.std.proofs.lemmas.Bool.{ltb-false, leb-false}
 use Rattle.std.specs.Str.Parse.{digits_value}
 use Rattle.polynomials.specs.Polynomials.{Polynomial, constant_of, variable_power}
+use Rattle.polynomials.specs.Fits.{most_exponent}
 use Rattle.system_text.specs.Tokens.{Token, Placed, Name, Number, Minus, Open}
 use Rattle.system_text.specs.Faults.{Fault, fault}
-use Rattle.system_text.specs.Limits.{most_digits, most_exponent, most_depth}
+use Rattle.system_text.specs.Limits.{most_digits, most_depth}
 use Rattle.system_text.specs.Sums.{Setting, Frame, Reading, AtSum, AtFactor, AfterBase, empty_frame, place_of_name, after_base, variable_at, number_base, opened_at, at_factor, at_sum}
 use Rattle.system_text.specs.Grammar.{Base, Numeral, Variable, variable_of, base_tokens, base_value, most_of}
 use Rattle.system_text.proofs.PartialTrees.{Beginning, Negative, before_tokens, factors_tokens, outer_tokens, Partial, EndsOpen, ReadingMeans}

@@ -2,9 +2,9 @@
 use Rattle.std.specs.Prelude.{ℕ, suc, ◌%◌, ◌<◌, ◌≤◌, List, [], ◌∷◌, ◌++◌, length, Option, Some, None}
 use Rattle.std.specs.Str.Parse.{digits_value}
 use Rattle.polynomials.specs.Polynomials.{Polynomial, sum_of, difference_of, negative_of, constant_of, variable_power}
-use Rattle.polynomials.specs.Fits.{product_within, power_within}
+use Rattle.polynomials.specs.Fits.{most_exponent, product_within, power_within}
 use Rattle.system_text.specs.Tokens.{Token, Name, Number}
-use Rattle.system_text.specs.Limits.{most_digits, most_exponent, most_power, most_depth, text_width}
+use Rattle.system_text.specs.Limits.{most_digits, most_power, most_depth, text_width}
 use Rattle.system_text.specs.Sums.{Setting, place_of_name}
 
 mutual

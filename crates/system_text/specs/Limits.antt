@@ -5,10 +5,6 @@ use Rattle.std.specs.Prelude.{ℕ}
 abbrev pub most_digits : ℕ
 most_digits = 18
 
--- the greatest exponent of a name or a number
-abbrev pub most_exponent : ℕ
-most_exponent = 65535
-
 -- the greatest exponent of a parenthesis
 abbrev pub most_power : ℕ
 most_power = 64

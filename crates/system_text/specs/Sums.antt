@@ -3,10 +3,10 @@ use Rattle.std.specs.Prelude.{ℕ, suc, ◌+◌, ◌%◌, ltb, leb, Bool, true, 
 use Rattle.std.specs.Str.{bytes_eq}
 use Rattle.std.specs.Str.Parse.{digits_value}
 use Rattle.polynomials.specs.Polynomials.{Polynomial, sum_of, difference_of, constant_of, variable_power}
-use Rattle.polynomials.specs.Fits.{product_within, power_within}
+use Rattle.polynomials.specs.Fits.{most_exponent, product_within, power_within}
 use Rattle.system_text.specs.Tokens.{Token, Placed, Name, Number, Plus, Minus, Times, Power, Open, Close, tokens}
 use Rattle.system_text.specs.Faults.{Fault, fault, misplaced}
-use Rattle.system_text.specs.Limits.{most_digits, most_exponent, most_power, most_depth, text_width}
+use Rattle.system_text.specs.Limits.{most_digits, most_power, most_depth, text_width}
 
 -- what polynomials are read over: the modulus, the number of exponents, and the names in order
 pub record Setting : Type 0 where
