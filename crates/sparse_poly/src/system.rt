@@ -8,7 +8,8 @@ pub type Polys = Items<Poly>;
 /// The names of the variables, the least first.
 pub type Names = Items<String>;
 
-/// Polynomials whose common zeros are sought, over a field, with the names of their variables.
+/// Polynomials over a field with the names of their variables: those whose common zeros are sought,
+/// and those that must not vanish there.
 #[derive(Debug, Drop)]
 pub struct System {
     /// What the coefficients are taken from.
@@ -17,4 +18,7 @@ pub struct System {
     pub names: Names,
     /// The polynomials, in the order in which they were given; they may repeat or be 0.
     pub inputs: Polys,
+    /// The polynomials that must not vanish, in the order in which they were given; they may repeat
+    /// or be 0.
+    pub nonzero: Polys,
 }

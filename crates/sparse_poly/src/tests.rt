@@ -204,10 +204,12 @@ fn a_system_is_made_and_read_and_may_cross_threads(rt: HostRuntime) -> Result<()
         field,
         names,
         inputs,
+        nonzero: Polys::new(alloc),
     };
     assert_eq!(rt; system.field.prime(), 7);
     assert_eq!(rt; system.names.count(), 1);
     assert_eq!(rt; system.inputs.count(), 1);
+    assert_eq!(rt; system.nonzero.count(), 0);
     crosses_threads(system);
     crosses_threads(Work { field, width: 1 });
     crosses_threads(Poly::zero(alloc));

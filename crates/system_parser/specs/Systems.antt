@@ -17,7 +17,7 @@ names_of names = map (λ name. string_bytes name) names
 
 -- a system, with the bytes of its names
 abbrev pub text_system_of : System → TextSystem
-text_system_of s = record { prime = s.field; names = names_of s.names; inputs = s.inputs }
+text_system_of s = record { prime = s.field; names = names_of s.names; inputs = s.inputs; nonzero = s.nonzero }
 
 -- what polynomials of a system are read over
 abbrev pub setting_over : System → Setting

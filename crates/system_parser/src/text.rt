@@ -93,6 +93,7 @@ impl Progress {
                     field,
                     names,
                     inputs: Polys::new(alloc),
+                    nonzero: Polys::new(alloc),
                 }))
             }
             Progress::AtSums(mut system) => {

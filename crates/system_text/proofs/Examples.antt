@@ -14,6 +14,7 @@ one_variable : read_text 1 (codes "prime 5\norder x\nx^2 + 4\nx^2 + x + 3\n") �
   prime = 5;
   names = codes "x" ∷ [];
   inputs = (term (2 ∷ []) 1 ∷ term (0 ∷ []) 4 ∷ []) ∷ (term (2 ∷ []) 1 ∷ term (1 ∷ []) 1 ∷ term (0 ∷ []) 3 ∷ []) ∷ [];
+  nonzero = [];
 })
 one_variable = refl
 
@@ -22,6 +23,7 @@ two_variables : read_text 2 (codes "# a\n prime  7 \n\norder y x\n -2*( x - y)^2
   prime = 7;
   names = codes "y" ∷ codes "x" ∷ [];
   inputs = (term (1 ∷ 2 ∷ []) 5 ∷ term (2 ∷ 1 ∷ []) 4 ∷ term (3 ∷ 0 ∷ []) 5 ∷ term (0 ∷ 0 ∷ []) 3 ∷ []) ∷ [];
+  nonzero = [];
 })
 two_variables = refl
 

@@ -7,7 +7,7 @@ use Rattle.polynomials.proofs.PrimeLemmas.{IsPrime-field_primes}
 use Rattle.system_text.specs.Sums.{Setting}
 use Rattle.system_text.specs.Lines.{setting_of}
 use Rattle.system_text.specs.Systems.{SpellSums}
-use Rattle.system_text.specs.Laws.{WhatIsReadIsASystem}
+use Rattle.system_text.specs.Laws.{AreNamedPolynomials, WhatIsReadIsASystem}
 use Rattle.system_text.proofs.Values.{IsNamed, sum_value_is_named}
 use Rattle.system_text.proofs.ReadTexts.{system_texts_are_read}
 
@@ -23,8 +23,12 @@ what_is_read_is_a_system n bytes system e =
     let h = (system_texts_are_read n bytes system).0 e in
     let many = (IsPrime-field_primes system.prime h.prime.offered).many in
     let named = spelled_sums_are_named (setting_of n system) many h.sum_lines system.inputs h.sums in
+    let none = subst (AllByRecursion (IsNamed (setting_of n system))) (sym h.nonzero) tt in
+    let each : (fs : List Polynomial) → AllByRecursion (IsNamed (setting_of n system)) fs → AreNamedPolynomials system.prime n system.names fs =
+    λ fs ks f k. All-contains (IsNamed (setting_of n system)) fs f (All-from_recursion (IsNamed (setting_of n system)) fs ks) k in
     record {
       prime = h.prime.offered;
       lawful = h.order.lawful;
-      inputs = λ f k. All-contains (IsNamed (setting_of n system)) system.inputs f (All-from_recursion (IsNamed (setting_of n system)) system.inputs named) k;
+      inputs = each system.inputs named;
+      nonzero = each system.nonzero none;
     }

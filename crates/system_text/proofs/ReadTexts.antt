@@ -19,14 +19,14 @@ module _ (n : ℕ) where
   text_is_complete number end (AtOrder p) system e = absurd cc
   text_is_complete number end (AtSums earlier) system e =
       let same : system ≡ earlier = cc in
-      ([], same ∙ ap (λ fs. record { prime = earlier.prime; names = earlier.names; inputs = fs }) (sym (append-nil earlier.inputs)), refl)
+      ([], same ∙ ap (λ fs. record { prime = earlier.prime; names = earlier.names; inputs = fs; nonzero = earlier.nonzero }) (sym (append-nil earlier.inputs)), refl)
 
   complete_text_ends : (number end : ℕ) (progress : Progress) (system : TextSystem) → Completes n progress [] system → text_ends number end progress ≡ Ok system
   complete_text_ends number end AtPrime system k = absurd (cc k.3)
   complete_text_ends number end (AtOrder p) system k = absurd (cc k.2)
   complete_text_ends number end (AtSums earlier) system k =
       let none : k.0 ≡ [] = k.2 in
-      let same : earlier ≡ system = sym (k.1 ∙ ap (λ fs. record { prime = earlier.prime; names = earlier.names; inputs = earlier.inputs ++ fs }) none ∙ ap (λ fs. record { prime = earlier.prime; names = earlier.names; inputs = fs }) (append-nil earlier.inputs)) in
+      let same : earlier ≡ system = sym (k.1 ∙ ap (λ fs. record { prime = earlier.prime; names = earlier.names; inputs = earlier.inputs ++ fs; nonzero = earlier.nonzero }) none ∙ ap (λ fs. record { prime = earlier.prime; names = earlier.names; inputs = fs; nonzero = earlier.nonzero }) (append-nil earlier.inputs)) in
       ap (λ x. Ok x) same
 
   skipped_is : (line : List ℕ) (progress next : Progress) (o : Option ℕ) → first_not_text 1 line ≡ o → skipped progress o ≡ Ok next → HasCharacters line × (progress ≡ next)
@@ -96,7 +96,7 @@ system_texts_are_read n bytes system = (there, back)
     there e =
         let h = lines_are_spelled n 0 1 AtPrime (lines_of bytes) system tt e in
         let k = h.completes in
-        record { plain = plain_from_lines bytes h.characters; prime_line = k.0; order_line = k.1; sum_lines = k.2; lines = k.3; prime = k.4; order = k.5; sums = k.6 }
+        record { plain = plain_from_lines bytes h.characters; prime_line = k.0; order_line = k.1; sum_lines = k.2; lines = k.3; prime = k.4; order = k.5; sums = k.6; nonzero = k.7 }
 
     back : IsSystemText n bytes system → read_text n bytes ≡ Ok system
-    back h = lines_are_read n 0 1 AtPrime (lines_of bytes) system tt (lines_from_plain bytes h.plain) (h.prime_line, h.order_line, h.sum_lines, h.lines, h.prime, h.order, h.sums)
+    back h = lines_are_read n 0 1 AtPrime (lines_of bytes) system tt (lines_from_plain bytes h.plain) (h.prime_line, h.order_line, h.sum_lines, h.lines, h.prime, h.order, h.sums, h.nonzero)

@@ -30,9 +30,9 @@ module _ (n : ℕ) where
   -- the lines to come make this system
   abbrev pub Completes : Progress → List (List ℕ) → TextSystem → Type 0
   Completes AtPrime lines system =
-      (prime_line : List ℕ) × (order_line : List ℕ) × (sum_lines : List (List ℕ)) × (lines ≡ prime_line ∷ order_line ∷ sum_lines) × SpellsPrime prime_line system.prime × SpellsOrder n order_line system.names × SpellSums (setting_of n system) sum_lines system.inputs
+      (prime_line : List ℕ) × (order_line : List ℕ) × (sum_lines : List (List ℕ)) × (lines ≡ prime_line ∷ order_line ∷ sum_lines) × SpellsPrime prime_line system.prime × SpellsOrder n order_line system.names × SpellSums (setting_of n system) sum_lines system.inputs × (system.nonzero ≡ [])
   Completes (AtOrder p) lines system =
-      (order_line : List ℕ) × (sum_lines : List (List ℕ)) × (lines ≡ order_line ∷ sum_lines) × (p ≡ system.prime) × SpellsOrder n order_line system.names × SpellSums (setting_of n system) sum_lines system.inputs
+      (order_line : List ℕ) × (sum_lines : List (List ℕ)) × (lines ≡ order_line ∷ sum_lines) × (p ≡ system.prime) × SpellsOrder n order_line system.names × SpellSums (setting_of n system) sum_lines system.inputs × (system.nonzero ≡ [])
   Completes (AtSums earlier) lines system =
       (fs : List Polynomial) × (system ≡ record earlier { inputs = earlier.inputs ++ fs }) × SpellSums (setting_of n earlier) lines fs
 
@@ -57,16 +57,16 @@ module _ (n : ℕ) where
       subst (IsLineBefore AtPrime line) same (record {
         characters = characters_of line (Name (codes "prime") ∷ Number spelled.digits ∷ []) spelled.spelled (tt, (tt, tt));
         has_prime = spelled.offered;
-        completes = λ lines system k. (line, k.0, k.1, ap (λ ls. line ∷ ls) k.2, subst (SpellsPrime line) k.3 spelled, k.4, k.5);
+        completes = λ lines system k. (line, k.0, k.1, ap (λ ls. line ∷ ls) k.2, subst (SpellsPrime line) k.3 spelled, k.4, k.5, k.6);
       })
   content_is_spelled (AtOrder p) line next h e =
-      let parts = both_read (read_order n line) (λ names. Ok (AtSums (record { prime = p; names = names; inputs = [] }))) next e in
+      let parts = both_read (read_order n line) (λ names. Ok (AtSums (record { prime = p; names = names; inputs = []; nonzero = [] }))) next e in
       let spelled = order_line_is_spelled n line parts.between parts.first in
-      let same : AtSums (record { prime = p; names = parts.between; inputs = [] }) ≡ next = cc parts.second in
+      let same : AtSums (record { prime = p; names = parts.between; inputs = []; nonzero = [] }) ≡ next = cc parts.second in
       subst (IsLineBefore (AtOrder p) line) same (record {
         characters = characters_of line (Name (codes "order") ∷ _) spelled.spelled (tt, names_are_text parts.between);
         has_prime = h;
-        completes = λ lines system k. (line, lines, refl, sym (ap (λ x. x.prime) k.1), subst (SpellsOrder n line) (sym (ap (λ x. x.names) k.1)) spelled, subst (λ x. SpellSums (setting_of n x) lines x.inputs) (sym k.1) k.2);
+        completes = λ lines system k. (line, lines, refl, sym (ap (λ x. x.prime) k.1), subst (SpellsOrder n line) (sym (ap (λ x. x.names) k.1)) spelled, subst (λ x. SpellSums (setting_of n x) lines x.inputs) (sym k.1) k.2, ap (λ x. x.nonzero) k.1);
       })
   content_is_spelled (AtSums system) line next h e =
       let parts = both_read (read_sum (setting_of n system) line) (λ f. Ok (AtSums (with_input system f))) next e in
@@ -75,7 +75,7 @@ module _ (n : ℕ) where
       subst (IsLineBefore (AtSums system) line) same (record {
         characters = characters_of line _ spelled.spelled (sum_is_text spelled.tree);
         has_prime = h;
-        completes = λ lines whole k. (parts.between ∷ k.0, k.1 ∙ ap (λ fs. record { prime = system.prime; names = system.names; inputs = fs }) (append_assoc system.inputs (parts.between ∷ []) k.0), (spelled, k.2));
+        completes = λ lines whole k. (parts.between ∷ k.0, k.1 ∙ ap (λ fs. record { prime = system.prime; names = system.names; inputs = fs; nonzero = system.nonzero }) (append_assoc system.inputs (parts.between ∷ []) k.0), (spelled, k.2));
       })
 
   -- what a line leaves
@@ -94,17 +94,17 @@ module _ (n : ℕ) where
         next = AtOrder system.prime;
         read = ap (λ a. and_then_read a (λ p. Ok (AtOrder p))) (prime_line_is_read line system.prime (subst (λ l. SpellsPrime l system.prime) same k.4));
         has_prime = k.4.offered;
-        completes = (k.1, k.2, rest, refl, k.5, k.6);
+        completes = (k.1, k.2, rest, refl, k.5, k.6, k.7);
       }
   content_is_read (AtOrder p) line lines system h k =
       let same : k.0 ≡ line = cc (sym k.2) in
       let rest : k.1 ≡ lines = cc (sym k.2) in
       let sums = subst (λ q. SpellSums (record { modulus = q; variables = n; names = system.names }) k.1 system.inputs) (sym k.3) k.5 in
       record {
-        next = AtSums (record { prime = p; names = system.names; inputs = [] });
-        read = ap (λ a. and_then_read a (λ names. Ok (AtSums (record { prime = p; names = names; inputs = [] })))) (order_line_is_read n line system.names (subst (λ l. SpellsOrder n l system.names) same k.4));
+        next = AtSums (record { prime = p; names = system.names; inputs = []; nonzero = [] });
+        read = ap (λ a. and_then_read a (λ names. Ok (AtSums (record { prime = p; names = names; inputs = []; nonzero = [] })))) (order_line_is_read n line system.names (subst (λ l. SpellsOrder n l system.names) same k.4));
         has_prime = h;
-        completes = (system.inputs, ap (λ q. record { prime = q; names = system.names; inputs = system.inputs }) (sym k.3), subst (λ ls. SpellSums (record { modulus = p; variables = n; names = system.names }) ls system.inputs) rest sums);
+        completes = (system.inputs, ap (λ q. record { prime = q; names = system.names; inputs = system.inputs; nonzero = system.nonzero }) (sym k.3) ∙ ap (λ gs. record { prime = p; names = system.names; inputs = system.inputs; nonzero = gs }) k.6, subst (λ ls. SpellSums (record { modulus = p; variables = n; names = system.names }) ls system.inputs) rest sums);
       }
   content_is_read (AtSums earlier) line lines system h k = sum_is_read k.0 k.1 k.2
     where
@@ -114,5 +114,5 @@ module _ (n : ℕ) where
         next = AtSums (with_input earlier f);
         read = ap (λ a. and_then_read a (λ g. Ok (AtSums (with_input earlier g)))) ((spelled_sums_are_read (setting_of n earlier) line f (many_of_prime earlier.prime h)).1 sums.0);
         has_prime = h;
-        completes = (fs, e ∙ ap (λ gs. record { prime = earlier.prime; names = earlier.names; inputs = gs }) (sym (append_assoc earlier.inputs (f ∷ []) fs)), sums.1);
+        completes = (fs, e ∙ ap (λ gs. record { prime = earlier.prime; names = earlier.names; inputs = gs; nonzero = earlier.nonzero }) (sym (append_assoc earlier.inputs (f ∷ []) fs)), sums.1);
       }

@@ -28,6 +28,7 @@ pub record IsSystem (n : ℕ) (system : TextSystem) : Type 0 where
   pub prime : Contains field_primes system.prime
   pub lawful : AreNames n system.names
   pub inputs : AreNamedPolynomials system.prime n system.names system.inputs
+  pub nonzero : AreNamedPolynomials system.prime n system.names system.nonzero
 
 -- each text that is read is a system
 abbrev pub WhatIsReadIsASystem : Type 0

@@ -96,11 +96,13 @@ names_from n end names (t ∷ ts) = elim (with_name n names t t.token) [ Ok more
 abbrev pub read_order : ℕ → List ℕ → Result (List (List ℕ)) Fault
 read_order n line = and_then_read (word_first 4 (codes "order") (length line + 1) (tokens line)) (names_from n (length line + 1) [])
 
--- a system: the prime, the names of the variables, the least first, and the polynomials in order
+-- a system: the prime, the names of the variables, the least first, and in order the polynomials
+-- whose common zeros are sought and those that must not vanish there
 pub record TextSystem : Type 0 where
   pub prime : ℕ
   pub names : List (List ℕ)
   pub inputs : List Polynomial
+  pub nonzero : List Polynomial
 
 -- what was read of a text: nothing, the prime, or a system so far
 pub data Progress : Type 0 where
@@ -119,7 +121,7 @@ with_input system f = record system { inputs = system.inputs ++ f ∷ [] }
 -- a line that isn't skipped, after what was read before it
 abbrev pub read_content : ℕ → Progress → List ℕ → Result Progress Fault
 read_content n AtPrime line = and_then_read (read_prime line) (λ p. Ok (AtOrder p))
-read_content n (AtOrder p) line = and_then_read (read_order n line) (λ names. Ok (AtSums (record { prime = p; names = names; inputs = [] })))
+read_content n (AtOrder p) line = and_then_read (read_order n line) (λ names. Ok (AtSums (record { prime = p; names = names; inputs = []; nonzero = [] })))
 read_content n (AtSums system) line = and_then_read (read_sum (setting_of n system) line) (λ f. Ok (AtSums (with_input system f)))
 
 -- a skipped line whose first byte that is no character is there or not

@@ -70,3 +70,4 @@ pub record IsSystemText (n : ℕ) (bytes : List ℕ) (system : TextSystem) : Typ
   pub prime : SpellsPrime prime_line system.prime
   pub order : SpellsOrder n order_line system.names
   pub sums : SpellSums (setting_of n system) sum_lines system.inputs
+  pub nonzero : system.nonzero ≡ []
