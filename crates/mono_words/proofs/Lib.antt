@@ -3,3 +3,6 @@ mod Carries
 mod Places
 mod WordOrder
 mod Largest
+mod Parts
+mod PartOrder
+mod PartPlaces

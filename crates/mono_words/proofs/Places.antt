@@ -94,9 +94,9 @@ greatest_variable-bit n w j below least most =
     greatest_variable-exponents n w (j / 16) below
     (omega (arith, power_of_two (j / 16))) (omega (arith, power_of_two (suc (j / 16))))
 
--- an exponent in its place, as it is cut out of a word of 128 bits
-pub masked_place : (w v : ℕ) → v < 8 → bit_and (w / 2 ^ (16 * v)) 65535 * 2 ^ (16 * v) % 2 ^ 128 ≡ w / 65536 ^ v % 65536 * 65536 ^ v
+-- an exponent in its place, as it is cut out of a word of 64 bits
+pub masked_place : (w v : ℕ) → v < 4 → bit_and (w / 2 ^ (16 * v)) 65535 * 2 ^ (16 * v) % 2 ^ 64 ≡ w / 65536 ^ v % 65536 * 65536 ^ v
 masked_place w v below =
-    ap (λ x. x * 2 ^ (16 * v) % 2 ^ 128) (and_mask (w / 2 ^ (16 * v)) 16)
-    ∙ shl_whole (w / 2 ^ (16 * v) % 65536) 16 (16 * v) 128 (omega arith) (omega arith)
+    ap (λ x. x * 2 ^ (16 * v) % 2 ^ 64) (and_mask (w / 2 ^ (16 * v)) 16)
+    ∙ shl_whole (w / 2 ^ (16 * v) % 65536) 16 (16 * v) 64 (omega arith) (omega arith)
     ∙ ap (λ x. w / x % 65536 * x) (power_of_two v)

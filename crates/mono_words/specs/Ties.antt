@@ -17,5 +17,7 @@ equal_from_is_eq Greater h = cc
 -- the test of equality is the test of a tie
 pub same_monomial-ties : (l m : Monomial) → same_monomial l m ≡ is_eq (monomial_order l m)
 same_monomial-ties l m =
-    same_from_decides (same_monomial l m) (is_eq (monomial_order l m)) (same_monomial_decides l m)
-    ((λ h. monomial_order_same l m (equal_from_is_eq (monomial_order l m) h)), (λ e. ap (λ x. is_eq (monomial_order x m)) e ∙ ap is_eq (monomial_order-refl m)))
+    same_from_decides (same_monomial l m) (is_eq (monomial_order l m)) (same_monomial_decides l m) (
+      (λ h. monomial_order_same l m (equal_from_is_eq (monomial_order l m) h)),
+      (λ e. ap (λ x. is_eq (monomial_order x m)) e ∙ ap is_eq (monomial_order-refl m)),
+    )

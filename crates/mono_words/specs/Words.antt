@@ -16,7 +16,8 @@ packed (e ∷ m) = e + 65536 * packed m
 -- none of the n exponents carries into the next where the words a and b are added
 unfoldable pub AddWithoutCarry : ℕ → ℕ → ℕ → Type 0
 AddWithoutCarry zero a b = Unit {0}
-AddWithoutCarry (suc n) a b = (a % 65536 + b % 65536 < 65536) × AddWithoutCarry n (a / 65536) (b / 65536)
+AddWithoutCarry (suc n) a b =
+    (a % 65536 + b % 65536 < 65536) × AddWithoutCarry n (a / 65536) (b / 65536)
 
 -- a word without its lowest exponent has one exponent less
 pub upper_below : (n w : ℕ) → w < 65536 ^ suc n → w / 65536 < 65536 ^ n
@@ -27,4 +28,5 @@ pub packed-exponents : (n w : ℕ) → w < 65536 ^ n → packed (exponents n w) 
 unfolding exponents packed
 packed-exponents zero w below = omega arith
 packed-exponents (suc n) w below =
-    ap (λ x. w % 65536 + 65536 * x) (packed-exponents n (w / 65536) (upper_below n w below)) ∙ omega (arith, div-add-mod w 65536)
+    ap (λ x. w % 65536 + 65536 * x) (packed-exponents n (w / 65536) (upper_below n w below))
+    ∙ omega (arith, div-add-mod w 65536)

@@ -1,8 +1,9 @@
-//! Monomials in eight variables, packed into one word.
+//! Monomials in sixteen variables, packed into four words.
 #![tactic(auto)]
 
 mod mono;
 #[cfg(test)]
 mod tests;
+mod word;
 
 pub use mono::{Mono, VARS};

@@ -1,90 +1,109 @@
 ghost use Rattle.std.specs.Prelude.{◌≡◌, ℕ, ◌+◌, ◌<◌, ◌≤◌, ◌↔◌, ◌^◌, List, length, replicate, set, IsTrue};
 ghost use Rattle.std.specs.Cmp.{partial_equiv_from_equiv, partial_order_from_agreeing_total};
 ghost use Rattle.std.specs.Ordering.{as_partial_cmp};
-ghost use Rattle.std.proofs.Common.{refl, ap};
+ghost use Rattle.std.proofs.Common.{refl};
 ghost use Rattle.polynomials.specs.Monomials.{exponent_of, monomial_order, same_monomial, monomial_product, MonomialDivides, ExponentsFit, greatest_variable};
 ghost use Rattle.polynomials.specs.MonomialOrders.{monomial_order_total};
 ghost use Rattle.polynomials.specs.Equalities.{same_monomial_equivalence};
 ghost use Rattle.polynomials.specs.Fits.{greater_exponents, is_exponent_list};
-ghost use Rattle.mono_words.specs.Words.{exponents, packed, packed-exponents, AddWithoutCarry};
+ghost use Rattle.mono_words.specs.Words.{exponents, packed};
+ghost use Rattle.mono_words.specs.FourWords.{four_words, AreWords, word_of, with_word, packed-four_words};
 ghost use Rattle.mono_words.specs.Ties.{same_monomial-ties};
 
+use crate::word::Word;
 use std::cmp::Ordering;
 use std::marker::Model;
 
 /// How many variables there are.
-pub const VARS: usize = 8;
+pub const VARS: usize = 16;
 
-/// A monomial: 16 bits for the exponent of each variable, the least variable lowest.
+/// A monomial: four words, the first with the exponents of the least variables.
 #[derive(Clone, Copy, Debug)]
 pub struct Mono {
-    word: u128,
+    first: Word,
+    second: Word,
+    third: Word,
+    fourth: Word,
 }
 
 impl Model for Mono {
     ghost Value = { List ℕ };
 
-    ghost view = { λ m. exponents 8 m.word };
+    ghost view = { λ m. four_words m.first.bits m.second.bits m.third.bits m.fourth.bits };
 
-    ghost invariant = { λ m. m.word < 65536 ^ 8 };
+    ghost invariant = { λ m. AreWords m.first.bits m.second.bits m.third.bits m.fourth.bits };
 
-    ghost inverse = { λ exponents. record { word = packed exponents } };
+    ghost inverse = { λ m. record {
+      first = record { bits = packed (word_of 0 m) };
+      second = record { bits = packed (word_of 1 m) };
+      third = record { bits = packed (word_of 2 m) };
+      fourth = record { bits = packed (word_of 3 m) };
+    } };
 
-    ghost inverse_ok = { λ m below. ap (λ w. record { word = w }) (packed-exponents 8 m.word below) };
+    ghost inverse_ok = { λ m below. packed-four_words
+        (λ a b c d. record {
+          first = record { bits = a };
+          second = record { bits = b };
+          third = record { bits = c };
+          fourth = record { bits = d };
+        })
+        m.first.bits m.second.bits m.third.bits m.fourth.bits below };
 }
-
-/// The lowest bit of each exponent.
-const LOWEST_BITS: u128 = 0x0001_0001_0001_0001_0001_0001_0001_0001;
 
 impl Mono {
     /// The monomial 1.
     pub fn one() -> Mono
-        ensures { result ≡ replicate 8 0 }
+        ensures { result ≡ replicate VARS 0 }
     {
-        Mono { word: 0 }
+        let word = Word::one();
+        Mono {
+            first: word,
+            second: word,
+            third: word,
+            fourth: word,
+        }
     }
 
     /// The variable `v` to the power `e`.
     pub fn power(v: usize, e: u16) -> Mono
         requires { v < VARS }
-        ensures { result ≡ set (replicate 8 0) v e }
+        ensures { result ≡ set (replicate VARS 0) v e }
     {
-        Mono {
-            word: (e as u128) << (16 * v),
-        }
+        Mono::one().with_word(v / 4, Word::power(v % 4, e))
     }
 
     /// Does nothing: its clauses tell what every monomial is.
     pub fn shape(self)
-        ensures variables { length self ≡ 8 }
+        ensures variables { length self ≡ VARS }
         ensures exponents { (v : ℕ) → exponent_of v self ≤ 65535 }
         ensures within { IsTrue (is_exponent_list self) }
     {
-        let _ = &self.word;
+        let _ = &self.first;
     }
 
     pub fn exponent(self, v: usize) -> u16
         requires { v < VARS }
         ensures { result ≡ exponent_of v self }
     {
-        (self.word >> (16 * v) & 0xffff) as u16
+        self.word(v / 4).exponent(v % 4)
     }
 
     /// Whether this is the monomial 1.
     pub fn is_one(self) -> bool
-        ensures { IsTrue result ↔ (self ≡ replicate 8 0) }
+        ensures { IsTrue result ↔ (self ≡ replicate VARS 0) }
     {
-        self.word == 0
+        self == Mono::one()
     }
 
     /// Whether the product has exponents of 16 bits.
     pub fn fits(self, other: Mono) -> bool
         ensures { IsTrue result ↔ ExponentsFit self other }
     {
-        match self.word.checked_add(other.word) {
-            Some(sum) => adds_without_carry(self.word, other.word, sum),
-            None => false,
-        }
+        // `&` has no branch, so the proof has one path.
+        self.first.fits(other.first)
+            & self.second.fits(other.second)
+            & self.third.fits(other.third)
+            & self.fourth.fits(other.fourth)
     }
 
     pub fn product(self, other: Mono) -> Mono
@@ -92,7 +111,10 @@ impl Mono {
         ensures { result ≡ monomial_product self other }
     {
         Mono {
-            word: self.word + other.word,
+            first: self.first.product(other.first),
+            second: self.second.product(other.second),
+            third: self.third.product(other.third),
+            fourth: self.fourth.product(other.fourth),
         }
     }
 
@@ -100,7 +122,11 @@ impl Mono {
     pub fn divides(self, other: Mono) -> bool
         ensures { IsTrue result ↔ MonomialDivides self other }
     {
-        self.word <= other.word && adds_without_carry(self.word, other.word - self.word, other.word)
+        // `&` has no branch, so the proof has one path.
+        self.first.divides(other.first)
+            & self.second.divides(other.second)
+            & self.third.divides(other.third)
+            & self.fourth.divides(other.fourth)
     }
 
     pub fn quotient(self, by: Mono) -> Mono
@@ -108,7 +134,10 @@ impl Mono {
         ensures { monomial_product result by ≡ self }
     {
         Mono {
-            word: self.word - by.word,
+            first: self.first.quotient(by.first),
+            second: self.second.quotient(by.second),
+            third: self.third.quotient(by.third),
+            fourth: self.fourth.quotient(by.fourth),
         }
     }
 
@@ -117,57 +146,80 @@ impl Mono {
         requires { v < VARS }
         ensures { result ≡ set self v 0 }
     {
-        let exponent = self.word >> (16 * v) & 0xffff;
-        Mono {
-            word: self.word - (exponent << (16 * v)),
-        }
+        self.shape();
+        self.with_word(v / 4, self.word(v / 4).without(v % 4))
     }
 
     /// The least common multiple.
     pub fn max_exponents(self, other: Mono) -> Mono
         ensures { result ≡ greater_exponents self other }
     {
-        self.shape();
-        other.shape();
         // Along a polynomial the multiple of the terms before is mostly one of the next term too.
         if other.divides(self) {
+            self.shape();
+            other.shape();
             return self;
         }
-        self.each_greater_exponent(other)
-    }
-
-    /// The least common multiple, by one exponent after the other.
-    fn each_greater_exponent(self, other: Mono) -> Mono
-        ensures { result ≡ greater_exponents self other }
-    {
-        self.shape();
-        other.shape();
-        let mut word: u128 = 0;
-        for v in (0..VARS).rev() {
-            let greater = self.exponent(v).max(other.exponent(v));
-            word = (word << 16) + greater as u128;
+        Mono {
+            first: self.first.greater_exponents(other.first),
+            second: self.second.greater_exponents(other.second),
+            third: self.third.greater_exponents(other.third),
+            fourth: self.fourth.greater_exponents(other.fourth),
         }
-        Mono { word }
     }
 
     pub fn greatest_variable(self) -> Option<usize>
         ensures { result ≡ greatest_variable self }
     {
-        if self.word == 0 {
-            None
-        } else {
-            Some((127 - self.word.leading_zeros() as usize) / 16)
+        if let Some(v) = self.fourth.greatest_variable() {
+            return Some(12 + v);
+        }
+        if let Some(v) = self.third.greatest_variable() {
+            return Some(8 + v);
+        }
+        if let Some(v) = self.second.greatest_variable() {
+            return Some(4 + v);
+        }
+        self.first.greatest_variable()
+    }
+
+    /// The word of the variables from `4 * i` on.
+    fn word(self, i: usize) -> Word
+        requires { i < 4 }
+        ensures { exponents 4 result.bits ≡ word_of i self }
+    {
+        match i {
+            0 => self.first,
+            1 => self.second,
+            2 => self.third,
+            _ => self.fourth,
         }
     }
-}
 
-/// Whether no exponent of `sum`, the sum of `a` and `b`, took a carry from the exponent below it.
-fn adds_without_carry(a: u128, b: u128, sum: u128) -> bool
-    requires { a + b ≡ sum }
-    ensures { IsTrue result ↔ AddWithoutCarry 8 a b }
-{
-    // The lowest bit of a sum is that of its two parts, turned where a carry came in.
-    (a ^ b ^ sum) & LOWEST_BITS == 0
+    /// This monomial with another word of the variables from `4 * i` on.
+    fn with_word(self, i: usize, word: Word) -> Mono
+        requires { i < 4 }
+        ensures { result ≡ with_word self i (exponents 4 word.bits) }
+    {
+        match i {
+            0 => Mono {
+                first: word,
+                ..self
+            },
+            1 => Mono {
+                second: word,
+                ..self
+            },
+            2 => Mono {
+                third: word,
+                ..self
+            },
+            _ => Mono {
+                fourth: word,
+                ..self
+            },
+        }
+    }
 }
 
 impl PartialEq for Mono {
@@ -176,7 +228,10 @@ impl PartialEq for Mono {
     ghost laws = { partial_equiv_from_equiv same_monomial_equivalence };
 
     fn eq(&self, other: &Mono) -> bool {
-        self.word == other.word
+        (self.first.bits == other.first.bits)
+            & (self.second.bits == other.second.bits)
+            & (self.third.bits == other.third.bits)
+            & (self.fourth.bits == other.fourth.bits)
     }
 }
 
@@ -204,6 +259,12 @@ impl Ord for Mono {
     ghost matches_eq = { same_monomial-ties };
 
     fn cmp(&self, other: &Mono) -> Ordering {
-        self.word.cmp(&other.word)
+        let lower = (self.second.bits.cmp(&other.second.bits)).then(
+            self.first.bits.cmp(&other.first.bits),
+        );
+        let upper = (self.fourth.bits.cmp(&other.fourth.bits)).then(
+            self.third.bits.cmp(&other.third.bits),
+        );
+        upper.then(lower)
     }
 }

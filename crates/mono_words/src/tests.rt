@@ -2,11 +2,23 @@ use super::*;
 use std::cmp::Ordering;
 use std::process::Abort;
 
-/// The monomial of these exponents, the least variable first.
-fn monomial(rt: &impl Abort, exponents: [u16; VARS]) -> Mono {
+/// The product of powers of variables.
+fn monomial(rt: &impl Abort, powers: &[(usize, u16)]) -> Mono {
+    let mut made = Mono::one();
+    for &(v, e) in powers {
+        assert!(rt; v < VARS);
+        let factor = Mono::power(v, e);
+        assert!(rt; made.fits(factor));
+        made = made.product(factor);
+    }
+    made
+}
+
+/// Each variable to one power.
+fn each_to(rt: &impl Abort, e: u16) -> Mono {
     let mut made = Mono::one();
     for v in 0..VARS {
-        let factor = Mono::power(v, exponents[v]);
+        let factor = Mono::power(v, e);
         assert!(rt; made.fits(factor));
         made = made.product(factor);
     }
@@ -32,125 +44,114 @@ fn each_variable_has_its_own_exponent(rt: HostRuntime) {
 
 #[test]
 fn the_greatest_variable_decides_the_order(rt: HostRuntime) {
+    let mut below = Mono::one();
+    for v in 0..VARS {
+        let one = Mono::power(v, 1);
+        assert!(rt; below < one, "all variables below {v}");
+        assert_eq!(rt; one.cmp(&one), Ordering::Equal);
+        assert_eq!(rt; Mono::power(v, 2).cmp(&one), Ordering::Greater);
+        below = below.max_exponents(Mono::power(v, 65535));
+    }
     for (left, right, order) in [
-        ([0; 8], [0; 8], Ordering::Equal),
-        ([0; 8], [1, 0, 0, 0, 0, 0, 0, 0], Ordering::Less),
         (
-            [65535, 0, 0, 0, 0, 0, 0, 0],
-            [0, 1, 0, 0, 0, 0, 0, 0],
-            Ordering::Less,
-        ),
-        (
-            [2, 1, 0, 0, 0, 0, 0, 0],
-            [1, 1, 0, 0, 0, 0, 0, 0],
+            monomial(&rt, &[(0, 2), (15, 1)]),
+            monomial(&rt, &[(0, 1), (15, 1)]),
             Ordering::Greater,
         ),
         (
-            [9, 9, 9, 9, 9, 9, 9, 1],
-            [0, 0, 0, 0, 0, 0, 0, 2],
+            monomial(&rt, &[(3, 1), (4, 1)]),
+            monomial(&rt, &[(2, 9), (4, 1)]),
+            Ordering::Greater,
+        ),
+        (
+            monomial(&rt, &[(3, 9), (7, 9), (11, 9)]),
+            Mono::power(12, 1),
             Ordering::Less,
         ),
         (
-            [0, 0, 0, 0, 0, 0, 0, 65535],
-            [65535, 65535, 65535, 65535, 65535, 65535, 65535, 65534],
-            Ordering::Greater,
+            monomial(&rt, &[(8, 7), (0, 3)]),
+            monomial(&rt, &[(0, 3), (8, 7)]),
+            Ordering::Equal,
         ),
     ] {
-        let (l, m) = (monomial(&rt, left), monomial(&rt, right));
-        assert_eq!(rt; l.cmp(&m), order);
-        assert_eq!(rt; l == m, order == Ordering::Equal);
-        assert_eq!(rt; l < m, order == Ordering::Less);
+        assert_eq!(rt; left.cmp(&right), order);
+        assert_eq!(rt; left == right, order == Ordering::Equal);
+        assert_eq!(rt; left < right, order == Ordering::Less);
     }
 }
 
 #[test]
 fn products_fit_up_to_the_greatest_exponent(rt: HostRuntime) {
-    for (left, right, product) in [
-        ([0; 8], [0; 8], Some([0; 8])),
-        (
-            [1, 2, 3, 4, 5, 6, 7, 8],
-            [8, 7, 6, 5, 4, 3, 2, 1],
-            Some([9; 8]),
-        ),
-        ([65535; 8], [0; 8], Some([65535; 8])),
-        (
-            [65534, 0, 0, 0, 0, 0, 0, 0],
-            [1, 0, 0, 0, 0, 0, 0, 0],
-            Some([65535, 0, 0, 0, 0, 0, 0, 0]),
-        ),
-        ([65535, 0, 0, 0, 0, 0, 0, 0], [1, 0, 0, 0, 0, 0, 0, 0], None),
-        (
-            [0, 0, 0, 40000, 0, 0, 0, 0],
-            [0, 0, 0, 25536, 0, 0, 0, 0],
-            None,
-        ),
-        (
-            [0, 0, 0, 40000, 0, 0, 0, 0],
-            [0, 0, 0, 25535, 0, 0, 0, 0],
-            Some([0, 0, 0, 65535, 0, 0, 0, 0]),
-        ),
-        ([0, 0, 0, 0, 0, 0, 0, 65535], [0, 0, 0, 0, 0, 0, 0, 1], None),
-        (
-            [0, 0, 0, 0, 0, 0, 65535, 0],
-            [0, 0, 0, 0, 0, 0, 65535, 0],
-            None,
-        ),
-    ] {
-        let (l, m) = (monomial(&rt, left), monomial(&rt, right));
-        let made = if l.fits(m) { Some(l.product(m)) } else { None };
-        assert_eq!(rt; made, product.map(|exponents| monomial(&rt, exponents)));
+    for v in 0..VARS {
+        for (d, e, sum) in [
+            (0, 0, Some(0)),
+            (65535, 0, Some(65535)),
+            (65534, 1, Some(65535)),
+            (40000, 25535, Some(65535)),
+            (40000, 25536, None),
+            (65535, 1, None),
+            (65535, 65535, None),
+        ] {
+            let (l, m) = (Mono::power(v, d), Mono::power(v, e));
+            let made = if l.fits(m) { Some(l.product(m)) } else { None };
+            assert_eq!(rt; made, sum.map(|e| Mono::power(v, e)), "variable {v}");
+        }
     }
+    let (l, m) = (each_to(&rt, 65534), each_to(&rt, 1));
+    assert!(rt; l.fits(m));
+    assert_eq!(rt; l.product(m), each_to(&rt, 65535));
 }
 
 #[test]
 fn divisors_have_no_greater_exponent(rt: HostRuntime) {
-    for (divisor, dividend, quotient) in [
-        ([0; 8], [1; 8], Some([1; 8])),
-        ([65535; 8], [65535; 8], Some([0; 8])),
-        ([1, 0, 0, 0, 0, 0, 0, 0], [0, 1, 0, 0, 0, 0, 0, 0], None),
+    let all = each_to(&rt, 65535);
+    for v in 0..VARS {
+        assert!(rt; Mono::power(v, 65535).divides(all), "variable {v}");
+        assert!(rt; !Mono::power(v, 1).divides(all.without(v)), "all but {v}");
+        assert!(rt; !all.divides(all.without(v)));
+    }
+    let dividend = monomial(&rt, &[(0, 3), (1, 2), (3, 65535), (4, 5), (9, 10), (15, 7)]);
+    for (divisor, quotient) in [
+        (Mono::one(), Some(dividend)),
+        (dividend, Some(Mono::one())),
         (
-            [0, 0, 0, 0, 0, 0, 0, 1],
-            [65535, 65535, 65535, 65535, 65535, 65535, 65535, 0],
-            None,
+            monomial(&rt, &[(1, 1), (9, 10), (15, 6)]),
+            Some(monomial(&rt, &[(0, 3), (1, 1), (3, 65535), (4, 5), (15, 1)])),
         ),
-        (
-            [1, 0, 0, 0, 0, 0, 0, 65535],
-            [0, 0, 0, 0, 0, 0, 0, 65535],
-            None,
-        ),
-        (
-            [3, 1, 4, 1, 5, 9, 2, 6],
-            [3, 2, 4, 1, 5, 10, 2, 7],
-            Some([0, 1, 0, 0, 0, 1, 0, 1]),
-        ),
-        ([3, 1, 4, 1, 5, 9, 2, 6], [4, 2, 5, 0, 6, 10, 3, 7], None),
+        (monomial(&rt, &[(0, 4), (1, 1)]), None),
+        (monomial(&rt, &[(4, 1), (8, 1)]), None),
+        (monomial(&rt, &[(3, 1), (4, 6)]), None),
     ] {
-        let (by, whole) = (monomial(&rt, divisor), monomial(&rt, dividend));
-        let made = if by.divides(whole) {
-            Some(whole.quotient(by))
+        let made = if divisor.divides(dividend) {
+            Some(dividend.quotient(divisor))
         } else {
             None
         };
-        assert_eq!(rt; made, quotient.map(|exponents| monomial(&rt, exponents)));
+        assert_eq!(rt; made, quotient);
     }
 }
 
 #[test]
 fn single_exponents_are_replaced(rt: HostRuntime) {
-    let whole = monomial(&rt, [3, 1, 4, 1, 5, 9, 2, 65535]);
+    let whole = monomial(&rt, &[(0, 3), (4, 1), (5, 9), (11, 2), (15, 65535)]);
     for (v, without) in [
-        (0, [0, 1, 4, 1, 5, 9, 2, 65535]),
-        (4, [3, 1, 4, 1, 0, 9, 2, 65535]),
-        (7, [3, 1, 4, 1, 5, 9, 2, 0]),
+        (0, monomial(&rt, &[(4, 1), (5, 9), (11, 2), (15, 65535)])),
+        (4, monomial(&rt, &[(0, 3), (5, 9), (11, 2), (15, 65535)])),
+        (11, monomial(&rt, &[(0, 3), (4, 1), (5, 9), (15, 65535)])),
+        (12, whole),
+        (15, monomial(&rt, &[(0, 3), (4, 1), (5, 9), (11, 2)])),
     ] {
-        assert_eq!(rt; whole.without(v), monomial(&rt, without), "without {v}");
+        assert_eq!(rt; whole.without(v), without, "without {v}");
     }
-    let other = monomial(&rt, [2, 7, 1, 8, 2, 8, 1, 8]);
-    let both = monomial(&rt, [3, 7, 4, 8, 5, 9, 2, 65535]);
+    let other = monomial(&rt, &[(0, 2), (1, 7), (4, 2), (5, 8), (8, 1), (15, 8)]);
+    let both = monomial(
+        &rt,
+        &[(0, 3), (1, 7), (4, 2), (5, 9), (8, 1), (11, 2), (15, 65535)],
+    );
     assert_eq!(rt; whole.max_exponents(other), both);
     assert_eq!(rt; other.max_exponents(whole), both);
     // Of a divisor and a multiple it is the multiple.
-    let divisor = monomial(&rt, [2, 0, 4, 1, 5, 8, 0, 65535]);
+    let divisor = monomial(&rt, &[(0, 2), (5, 8), (15, 65535)]);
     assert_eq!(rt; whole.max_exponents(divisor), whole);
     assert_eq!(rt; divisor.max_exponents(whole), whole);
 }

@@ -1,23 +1,11 @@
--- A word divides another exactly where it is no greater and the difference adds to it without a carry.
-use Rattle.std.proofs.Common.{◌≡◌, ℕ, true, ◌<◌, leb, arith}
-use Rattle.std.proofs.lemmas.Bool.Decides.{nat_tests}
-use Rattle.mono_words.proofs.Lanes.{difference_of, divides_from_difference}
+-- The exponents are no greater exactly where those of each word do.
+use Rattle.std.proofs.Common.{ℕ, ◌+◌, ◌≤◌, arith}
+use Rattle.mono_words.proofs.Parts.{test_of_each}
 use Rattle.mono_words.proofs.mono.Mono.divides.Goals as goal
 
--- a greater number isn't at most a smaller one
-not_at_most : (a b : ℕ) → b < a → leb a b ≡ true → ⊥
-not_at_most a b greater test = grind (arith, nat_tests)
-
-pub returns-then-self-other : goal.returns-then-self-other
-returns-then-self-other c =
-    rw (← c.self.view_is, ← c.other.view_is) (
-      (λ h. divides_from_difference 8 c.self.inside.word c.other.inside.word c.if-self-other.true (c.adds_without_carry.ensures.0 h)),
-      (λ d. c.adds_without_carry.ensures.1 (difference_of 8 c.self.inside.word c.other.inside.word c.self.invariant c.other.invariant d).1),
-    )
-
-pub returns-else-self-other : goal.returns-else-self-other
-returns-else-self-other c =
-    rw (← c.self.view_is, ← c.other.view_is) (
-      (λ h. absurd (not_at_most c.self.inside.word c.other.inside.word c.if-self-other.false h)),
-      (λ d. absurd (omega (arith, (difference_of 8 c.self.inside.word c.other.inside.word c.self.invariant c.other.invariant d).0))),
-    )
+pub returns : goal.returns
+returns c =
+    rw (← c.self.view_is, ← c.other.view_is)
+    (test_of_each (λ d e. d ≤ e) c.self.inside.first.bits c.self.inside.second.bits c.self.inside.third.bits c.self.inside.fourth.bits c.other.inside.first.bits c.other.inside.second.bits c.other.inside.third.bits c.other.inside.fourth.bits
+    c.divides.result c.divides-2.result c.divides-3.result c.divides-4.result (omega arith)
+    c.divides.ensures c.divides-2.ensures c.divides-3.ensures c.divides-4.ensures)

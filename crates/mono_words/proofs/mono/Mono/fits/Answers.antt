@@ -1,18 +1,11 @@
--- The exponents fit exactly where the sum of the words has no carry, and then it has 128 bits.
-use Rattle.mono_words.proofs.Lanes.{AddWithoutCarry-fit, fit-AddWithoutCarry, sum_below}
+-- The exponents fit exactly where those of each word do.
+use Rattle.std.proofs.Common.{ℕ, ◌+◌, ◌≤◌, arith}
+use Rattle.mono_words.proofs.Parts.{test_of_each}
 use Rattle.mono_words.proofs.mono.Mono.fits.Goals as goal
 
-pub returns-in-Some : goal.returns-in-Some
-returns-in-Some c =
-    rw (← c.self.view_is, ← c.other.view_is) (
-      (λ h. fit-AddWithoutCarry 8 c.self.inside.word c.other.inside.word (c.adds_without_carry.ensures.0 h)),
-      (λ fit. c.adds_without_carry.ensures.1 (AddWithoutCarry-fit 8 c.self.inside.word c.other.inside.word fit)),
-    )
-
-pub returns-in-None : goal.returns-in-None
-returns-in-None c =
-    rw (← c.self.view_is, ← c.other.view_is) (
-      (λ h. cc),
-      (λ fit. absurd (c.in-None.ensures (sum_below 8 c.self.inside.word c.other.inside.word c.self.invariant c.other.invariant
-          (AddWithoutCarry-fit 8 c.self.inside.word c.other.inside.word fit)))),
-    )
+pub returns : goal.returns
+returns c =
+    rw (← c.self.view_is, ← c.other.view_is)
+    (test_of_each (λ d e. d + e ≤ 65535) c.self.inside.first.bits c.self.inside.second.bits c.self.inside.third.bits c.self.inside.fourth.bits c.other.inside.first.bits c.other.inside.second.bits c.other.inside.third.bits c.other.inside.fourth.bits
+    c.fits.result c.fits-2.result c.fits-3.result c.fits-4.result (omega arith)
+    c.fits.ensures c.fits-2.ensures c.fits-3.ensures c.fits-4.ensures)

@@ -1,13 +1,9 @@
--- Of the words of eight exponents, 0 alone has the exponents 0.
-use Rattle.std.proofs.Common.{◌∙◌, sym, ap, lit<}
-use Rattle.std.proofs.lemmas.Bool.{eqb-true, eq-eqb}
-use Rattle.mono_words.specs.Words.{exponents}
-use Rattle.mono_words.proofs.Lanes.{same_word}
-use Rattle.mono_words.proofs.Places.{exponents-zero}
+-- The test of equality decides it.
+use Rattle.std.proofs.Common.{◌∙◌, sym}
+use Rattle.polynomials.specs.Equalities.{same_monomial_decides}
 use Rattle.mono_words.proofs.mono.Mono.is_one.Goals as goal
 
 pub returns : goal.returns
-returns c = (
-  (λ h. sym c.self.view_is ∙ ap (exponents 8) (eqb-true c.self.inside.word 0 h) ∙ exponents-zero 8),
-  (λ e. eq-eqb c.self.inside.word 0 (same_word 8 c.self.inside.word 0 c.self.invariant (lit< tt) (c.self.view_is ∙ e ∙ sym (exponents-zero 8)))),
-)
+returns c =
+    let same = same_monomial_decides c.args.self c.one.result in
+    ((λ h. same.0 (sym c.eq.ensures ∙ h) ∙ c.one.ensures), (λ e. c.eq.ensures ∙ same.1 (e ∙ sym c.one.ensures)))

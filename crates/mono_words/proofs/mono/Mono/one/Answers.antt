@@ -1,6 +1,6 @@
--- The word 0 has the exponents 0.
-use Rattle.mono_words.proofs.Places.{exponents-zero}
+-- Four words of 0.
+use Rattle.mono_words.proofs.Parts.{four_words-one}
 use Rattle.mono_words.proofs.mono.Mono.one.Goals as goal
 
 pub returns : goal.returns
-returns c = exponents-zero 8
+returns c = four_words-one c.one-word.result.bits c.one-word.ensures
