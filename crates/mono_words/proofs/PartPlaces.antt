@@ -1,8 +1,7 @@
 -- One variable of a monomial of four words.
-use Rattle.std.proofs.Common.{◌≡◌, ℕ, zero, suc, ◌+◌, ◌*◌, ◌/◌, ◌%◌, ◌<◌, [], ◌∷◌, ◌++◌, length, take, drop, replicate, set, refl, sym, ◌∙◌, ap, ap₂, arith}
+use Rattle.std.proofs.Common.{◌≡◌, ℕ, zero, suc, ◌+◌, ◌*◌, ◌/◌, ◌%◌, ◌<◌, [], ◌∷◌, ◌++◌, length, take, drop, replicate, set, refl, sym, ◌∙◌, ap, arith}
 use Rattle.polynomials.specs.Monomials.{Monomial, exponent_of}
-use Rattle.mono_words.specs.Words.{exponents}
-use Rattle.mono_words.specs.FourWords.{four_words, word_of, with_word}
+use Rattle.mono_words.specs.FourWords.{word_of, with_word}
 
 one_more : (k v : ℕ) → suc (k + v) ≡ suc k + v
 one_more k v = omega arith

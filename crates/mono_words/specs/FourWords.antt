@@ -1,5 +1,5 @@
 -- Monomials in sixteen variables as four words of four exponents.
-use Rattle.std.specs.Prelude.{◌≡◌, ℕ, suc, ◌+◌, ◌*◌, ◌^◌, ◌<◌, List, ◌++◌, take, drop}
+use Rattle.std.specs.Prelude.{◌≡◌, ℕ, ◌+◌, ◌*◌, ◌^◌, ◌<◌, ◌++◌, take, drop}
 use Rattle.std.proofs.Common.{ap₂, ◌∙◌}
 use Rattle.polynomials.specs.Monomials.{Monomial}
 use Rattle.mono_words.specs.Words.{exponents, packed, packed-exponents}

@@ -1,5 +1,5 @@
 -- The exponents are no greater exactly where those of each word do.
-use Rattle.std.proofs.Common.{ℕ, ◌+◌, ◌≤◌, arith}
+use Rattle.std.proofs.Common.{◌≤◌, arith}
 use Rattle.mono_words.proofs.Parts.{test_of_each}
 use Rattle.mono_words.proofs.mono.Mono.divides.Goals as goal
 

@@ -1,5 +1,5 @@
 -- The greatest word that is not 0 has the greatest variable.
-use Rattle.std.proofs.Common.{◌∙◌, sym, ap, Some}
+use Rattle.std.proofs.Common.{◌∙◌, sym, ap}
 use Rattle.polynomials.specs.Monomials.{greatest_variable}
 use Rattle.mono_words.proofs.PartOrder.{greatest_of_fourth, greatest_of_third, greatest_of_second, greatest_of_first}
 use Rattle.mono_words.proofs.mono.Mono.greatest_variable.Goals as goal

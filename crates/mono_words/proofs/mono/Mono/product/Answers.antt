@@ -1,5 +1,5 @@
 -- The products of the words are the words of the product.
-use Rattle.std.proofs.Common.{ℕ, ◌+◌, ◌≤◌, ◌∙◌, ap₂, arith}
+use Rattle.std.proofs.Common.{◌+◌, ◌≤◌, ◌∙◌, ap₂, arith}
 use Rattle.polynomials.specs.Monomials.{monomial_product}
 use Rattle.mono_words.proofs.Parts.{OfEachWord, each_word, four_words-product}
 use Rattle.mono_words.proofs.mono.Mono.product.Goals as goal

@@ -1,5 +1,5 @@
 -- The quotients of the words are the words of the quotient.
-use Rattle.std.proofs.Common.{ℕ, ◌≤◌, ◌∙◌, sym, ap, arith}
+use Rattle.std.proofs.Common.{◌≤◌, ◌∙◌, sym, ap, arith}
 use Rattle.polynomials.specs.Monomials.{monomial_product}
 use Rattle.mono_words.specs.FourWords.{four_words}
 use Rattle.mono_words.proofs.Parts.{OfEachWord, each_word, four_words-product}

@@ -1,5 +1,5 @@
 -- The other words stay.
-use Rattle.std.proofs.Common.{◌≡◌, ℕ, ◌∙◌, sym, ap, ap₂, refl, arith}
+use Rattle.std.proofs.Common.{◌≡◌, ◌∙◌, ap, arith}
 use Rattle.mono_words.specs.Words.{exponents}
 use Rattle.mono_words.specs.FourWords.{four_words, with_word}
 use Rattle.mono_words.proofs.mono.Mono.with_word.Goals as goal

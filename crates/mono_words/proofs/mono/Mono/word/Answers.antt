@@ -1,5 +1,5 @@
 -- The words of the monomial stand one after the other.
-use Rattle.std.proofs.Common.{◌≡◌, ℕ, ◌∙◌, sym, ap, refl, arith}
+use Rattle.std.proofs.Common.{◌≡◌, ◌∙◌, ap, arith}
 use Rattle.mono_words.specs.Words.{exponents}
 use Rattle.mono_words.specs.FourWords.{four_words, word_of}
 use Rattle.mono_words.proofs.mono.Mono.word.Goals as goal

@@ -1,6 +1,5 @@
 -- The order of the words is the order of the monomials.
 use Rattle.std.proofs.Common.{◌∙◌, sym, ap₂}
-use Rattle.std.specs.Ordering.{ordering_then}
 use Rattle.polynomials.specs.Monomials.{monomial_order}
 use Rattle.mono_words.proofs.PartOrder.{order-four_words}
 use Rattle.mono_words.proofs.mono.MonoOrd.cmp.Goals as goal
