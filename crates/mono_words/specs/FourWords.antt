@@ -28,12 +28,12 @@ pub packed-four_words :
     {B : Type 0} (make : ℕ → ℕ → ℕ → ℕ → B) (a b c d : ℕ) →
     AreWords a b c d →
     make
-        (packed (word_of 0 (four_words a b c d))) (packed (word_of 1 (four_words a b c d)))
-        (packed (word_of 2 (four_words a b c d))) (packed (word_of 3 (four_words a b c d)))
+    (packed (word_of 0 (four_words a b c d))) (packed (word_of 1 (four_words a b c d)))
+    (packed (word_of 2 (four_words a b c d))) (packed (word_of 3 (four_words a b c d)))
     ≡ make a b c d
 unfolding four_words exponents
 packed-four_words make a b c d below =
     ap₂ (λ (x y : ℕ). make x y (packed (exponents 4 c)) (packed (exponents 4 d)))
     (packed-exponents 4 a below.first) (packed-exponents 4 b below.second)
     ∙ ap₂ (λ (x y : ℕ). make a b x y)
-      (packed-exponents 4 c below.third) (packed-exponents 4 d below.fourth)
+    (packed-exponents 4 c below.third) (packed-exponents 4 d below.fourth)

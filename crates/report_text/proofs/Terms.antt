@@ -50,11 +50,11 @@ module _ (names : List (List ℕ)) (m : Monomial) (c : ℕ) where
       ∙ ap (λ x. text ++ x) (coefficient_and_powers one))
 
 -- what the test of the monomial 1 says
-pub one_by_test : (b : Bool) (m : Monomial) → length m ≡ 8 → (IsTrue b ↔ (m ≡ replicate 8 0)) → b ≡ true → m ≡ replicate (length m) 0
-one_by_test b m l test e = test.0 e ∙ ap (λ n. replicate n 0) (sym l)
+pub one_by_test : (n : ℕ) (b : Bool) (m : Monomial) → length m ≡ n → (IsTrue b ↔ (m ≡ replicate n 0)) → b ≡ true → m ≡ replicate (length m) 0
+one_by_test n b m l test e = test.0 e ∙ ap (λ k. replicate k 0) (sym l)
 
-pub other_by_test : (b : Bool) (m : Monomial) → length m ≡ 8 → (IsTrue b ↔ (m ≡ replicate 8 0)) → b ≡ false → m ≢ replicate (length m) 0
-other_by_test b m l test e same = let yes = test.1 (same ∙ ap (λ n. replicate n 0) l) in cc
+pub other_by_test : (n : ℕ) (b : Bool) (m : Monomial) → length m ≡ n → (IsTrue b ↔ (m ≡ replicate n 0)) → b ≡ false → m ≢ replicate (length m) 0
+other_by_test n b m l test e same = let yes = test.1 (same ∙ ap (λ k. replicate k 0) l) in cc
 
 -- in each term of a polynomial that is free of it, a variable has the exponent 0
 pub free_item : (v : ℕ) (f : Polynomial) (i : ℕ) (t : Term) → IsFreeOf v f → i < length f → t ≡ get_or f i t → exponent_of v t.0 ≡ 0

@@ -160,16 +160,16 @@ fn exponents_reach_from_1_to_65535(rt: HostRuntime) -> Result<(), Fail> {
 }
 
 #[test]
-fn powers_of_eight_variables_stand_in_order(rt: HostRuntime) -> Result<(), Fail> {
+fn powers_of_sixteen_variables_stand_in_order(rt: HostRuntime) -> Result<(), Fail> {
     let alloc = rt.alloc();
-    let names = names_of(alloc, "a b c d e f g h")?;
-    let m = monomial(&[1, 2, 3, 0, 1, 1, 65535, 9]);
+    let names = names_of(alloc, "a b c d e f g h i j k l m n o p")?;
+    let m = monomial(&[1, 2, 3, 0, 1, 1, 65535, 9, 0, 0, 4, 1, 0, 12, 1, 65535]);
     let f = Poly::from_terms(alloc, Field::of(65537)?, &[(m, 1)])?;
     if is_in_least(names.count(), &f) {
         let printed = print_poly(alloc, &names, &f)?;
-        assert_eq!(rt; printed.as_str(), "a*b^2*c^3*e*f*g^65535*h^9");
+        assert_eq!(rt; printed.as_str(), "a*b^2*c^3*e*f*g^65535*h^9*k^4*l*n^12*o*p^65535");
     }
-    assert!(rt; is_in_least(8, &f));
+    assert!(rt; is_in_least(VARS, &f));
     Ok(())
 }
 

@@ -96,7 +96,11 @@ fn a_system_has_the_chains_of_its_tree(rt: HostRuntime) -> Result<(), Fail> {
             b"prime 5\norder x\n999999999999999999*x\n",
             b"chain -\npoly x\nend 1\n",
         ),
-        (b"prime 5\norder a b c d e f g h\n", b"chain -\nend 1\n"),
+        (b"prime 5\norder a b c d e f g h i\n", b"chain -\nend 1\n"),
+        (
+            b"prime 5\norder a b c d e f g h i j k l m n o p\na*p\n",
+            b"chain 1\npoly p\nchain 2\npoly a\nend 2\n",
+        ),
     ] {
         check_run(&rt, rt.alloc(), text, Status::Chains, written)?;
     }
@@ -111,8 +115,8 @@ fn a_text_that_is_no_system_has_its_refusal(rt: HostRuntime) -> Result<(), Fail>
         (b"prime 5\n", b"refused 4 line 2 byte 1\n"),
         (b"prime 9\norder x\n", b"refused 3 line 1 byte 7\n"),
         (
-            b"prime 5\norder a b c d e f g h i\n",
-            b"refused 5 line 2 byte 23\n",
+            b"prime 5\norder a b c d e f g h i j k l m n o p q\n",
+            b"refused 5 line 2 byte 39\n",
         ),
         (b"prime 5\norder x x\n", b"refused 6 line 2 byte 9\n"),
         (b"prime 5\norder x y\nx + z\n", b"refused 7 line 3 byte 5\n"),
