@@ -31,6 +31,18 @@ longer bytes front left h e =
     let sum : length bytes ≡ length front + length left = ap length e ∙ length-append front left in
     omega arith
 
+-- what was read to its end has the property
+abbrev pub IfWhole : (List ℕ → Type 0) → Input → Type 0
+IfWhole P (Whole bytes) = P bytes.items
+IfWhole P TooLong = Unit {0}
+
+-- what was read to its end is the input
+pub whole_is_input : (told left : Option (List ℕ)) (input : Input) → ReadsAll most_bytes told left (Ok input) → IfWhole (λ bytes. IsInput true told bytes) input
+whole_is_input told left TooLong h = tt
+whole_is_input None left (Whole read) h = tt
+whole_is_input (Some bytes) None (Whole read) h = absurd h.1
+whole_is_input (Some bytes) (Some left) (Whole read) h = whole_bytes bytes read.items left h.1 h.2
+
 module _ {O S : Type 0} (program : Program O S) where
   -- few bytes end as the program says, and more are too long
   few_ending : (options : O) (bytes : List ℕ) → length bytes ≤ most_bytes → program.ending options bytes ≡ ending_of program options bytes

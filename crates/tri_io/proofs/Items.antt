@@ -2,20 +2,20 @@
 use Rattle.std.proofs.Common.{◌≡◌, ℕ, suc, ◌<◌, List, [], ◌∷◌, ◌++◌, length, refl, sym, ap₂, subst, inl, inr, arith, length-append}
 use Rattle.std.specs.Prelude.{codes}
 use Rattle.std.proofs.Math.Seq.{get_or-append_seam}
-use Rattle.tri_io.specs.Commands.{Item, flag, joined, Begins}
-use Rattle.tri_io.specs.Givens.{IsPlain}
+use Rattle.tri_io.specs.Commands.{Item, flag, single_word, Begins}
+use Rattle.tri_io.specs.Givens.{HasNoEquals}
 
 -- a plain name has no part that is
-plain_tail : (b : ℕ) (bs : List ℕ) → IsPlain (b ∷ bs) → IsPlain bs
+plain_tail : (b : ℕ) (bs : List ℕ) → HasNoEquals (b ∷ bs) → HasNoEquals bs
 plain_tail b bs plain = λ k d below. plain (suc k) d (omega arith)
 
 -- what holds an equals sign isn't plain
-pub not_plain : (name value : List ℕ) → IsPlain (name ++ (61 ∷ value)) → ⊥
+pub not_plain : (name value : List ℕ) → HasNoEquals (name ++ (61 ∷ value)) → ⊥
 not_plain name value plain =
     plain (length name) 0 (omega (arith, length-append name (61 ∷ value))) (get_or-append_seam name 61 value 0)
 
 -- a text falls in one way into a plain name, an equals sign and what follows
-parts_same : (m n v w : List ℕ) → IsPlain m → IsPlain n → m ++ (61 ∷ v) ≡ n ++ (61 ∷ w) → (m ≡ n) × (v ≡ w)
+parts_same : (m n v w : List ℕ) → HasNoEquals m → HasNoEquals n → m ++ (61 ∷ v) ≡ n ++ (61 ∷ w) → (m ≡ n) × (v ≡ w)
 parts_same [] [] v w p q e = (refl, cc)
 parts_same [] (b ∷ n) v w p q e =
     let first : 61 ≡ b = cc in absurd (q 0 0 (omega arith) (sym first))
@@ -31,33 +31,33 @@ parts_same (a ∷ m) (b ∷ n) v w p q e =
 item_same : (a b : Item) → a.name ≡ b.name → a.value ≡ b.value → a ≡ b
 item_same a b name value = let make : List ℕ → List ℕ → Item = λ n v. record { name = n; value = v } in ap₂ make name value
 
--- a word that is joined isn't a flag
-joined__not_flag : (a b : Item) → IsPlain b.name → joined a ≡ flag b → ⊥
-joined__not_flag a b plain e =
+-- an option with its value in one word is no flag
+single__not_flag : (a b : Item) → HasNoEquals b.name → single_word a ≡ flag b → ⊥
+single__not_flag a b plain e =
     let text : a.name ++ (61 ∷ a.value) ≡ b.name = cc in
-    not_plain a.name a.value (let P : List ℕ → Type 0 = λ t. IsPlain t in subst P (sym text) plain)
+    not_plain a.name a.value (let P : List ℕ → Type 0 = λ t. HasNoEquals t in subst P (sym text) plain)
 
 -- words begin with one item of a plain name
-pub begins_same : (words : List (List ℕ)) (a b : Item) (r s : List (List ℕ)) → IsPlain a.name → IsPlain b.name
+pub begins_same : (words : List (List ℕ)) (a b : Item) (r s : List (List ℕ)) → HasNoEquals a.name → HasNoEquals b.name
     → Begins words a r → Begins words b s → (a ≡ b) × (r ≡ s)
 begins_same words a b r s p q (inl x) (inl y) =
     let text : a.name ++ (61 ∷ a.value) ≡ b.name ++ (61 ∷ b.value) = cc in
     let parts = parts_same a.name b.name a.value b.value p q text in
     (item_same a b parts.0 parts.1, cc)
-begins_same words a b r s p q (inl x) (inr y) = absurd (joined__not_flag a b q cc)
-begins_same words a b r s p q (inr x) (inl y) = absurd (joined__not_flag b a p cc)
+begins_same words a b r s p q (inl x) (inr y) = absurd (single__not_flag a b q cc)
+begins_same words a b r s p q (inr x) (inl y) = absurd (single__not_flag b a p cc)
 begins_same words a b r s p q (inr x) (inr y) =
     let name : a.name ≡ b.name = cc in
     let value : a.value ≡ b.value = cc in
     (item_same a b name value, cc)
 
 -- a word alone, with no equals sign, begins with no item
-pub unfinished : (word text : List ℕ) (after : List (List ℕ)) → word ≡ codes "--" ++ text → IsPlain text → length after ≡ 0
+pub unfinished : (word text : List ℕ) (after : List (List ℕ)) → word ≡ codes "--" ++ text → HasNoEquals text → length after ≡ 0
     → (item : Item) (rest : List (List ℕ)) → Begins (word ∷ after) item rest → ⊥
 unfinished word text (next ∷ after) spelled plain none item rest begins = absurd (omega arith)
 unfinished word text [] spelled plain none item rest (inl e) =
     let parted : item.name ++ (61 ∷ item.value) ≡ text = cc in
-    not_plain item.name item.value (let P : List ℕ → Type 0 = λ t. IsPlain t in subst P (sym parted) plain)
+    not_plain item.name item.value (let P : List ℕ → Type 0 = λ t. HasNoEquals t in subst P (sym parted) plain)
 unfinished word text [] spelled plain none item rest (inr e) = cc
 
 -- fewer words are left after an item

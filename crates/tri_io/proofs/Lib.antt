@@ -4,4 +4,4 @@ mod Items
 mod PlainNames
 mod Rests
 mod RestSteps
-mod KnownCommands
+pub mod KnownCommands

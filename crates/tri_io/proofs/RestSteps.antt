@@ -3,7 +3,7 @@ use Rattle.std.proofs.Common.{◌≡◌, ℕ, Bool, List, [], ◌∷◌, refl, i
 use Rattle.std.specs.Prelude.{None}
 use Rattle.std.specs.Option.{unwrap_or}
 use Rattle.tri_io.specs.Commands.{Rule, Item, Begins, Falls, IsOfSome, AreItems, workers_rule, steps_rule, width_rule, rules_of, value_of, Options, IsCommand}
-use Rattle.tri_io.specs.Givens.{IsPlain, IsFree}
+use Rattle.tri_io.specs.Givens.{HasNoEquals, IsUngiven}
 use Rattle.tri_io.specs.declared.command.Given.{Given}
 use Rattle.tri_io.proofs.Items.{begins_same}
 use Rattle.tri_io.proofs.PlainNames.{plain_of}
@@ -18,7 +18,7 @@ record Opens (with_workers : Bool) (given : Given) (item : Item) (rest : List (L
 
 -- the first of the items is the one that the words begin with
 opens_at : (with_workers : Bool) (given : Given) (words : List (List ℕ)) (item : Item) (rest : List (List ℕ)) (options : Options)
-    (items : List Item) → IsPlain item.name → Begins words item rest → Falls words items
+    (items : List Item) → HasNoEquals item.name → Begins words item rest → Falls words items
     → AreItems (rules_of with_workers) items → AreKept given items options → Opens with_workers given item rest options
 opens_at with_workers given words item rest options [] plain (inl x) falls lawful kept = cc
 opens_at with_workers given words item rest options [] plain (inr x) falls lawful kept = cc
@@ -33,13 +33,13 @@ opens_at with_workers given words item rest options (first ∷ items) plain begi
 
 -- the same of words that remain
 opens : (with_workers : Bool) (given : Given) (words : List (List ℕ)) (item : Item) (rest : List (List ℕ)) (options : Options)
-    → IsPlain item.name → Begins words item rest → IsRest with_workers given words options → Opens with_workers given item rest options
+    → HasNoEquals item.name → Begins words item rest → IsRest with_workers given words options → Opens with_workers given item rest options
 opens with_workers given words item rest options plain begins r =
     opens_at with_workers given words item rest options r.items plain begins r.falls r.lawful r.kept
 
 -- after the item that was read the rest remains
 pub rest_after : (with_workers : Bool) (old new : Given) (words : List (List ℕ)) (item : Item) (rest : List (List ℕ)) (options : Options)
-    → IsPlain item.name → Begins words item rest → PutsAll item old new
+    → HasNoEquals item.name → Begins words item rest → PutsAll item old new
     → IsRest with_workers old words options → IsRest with_workers new rest options
 rest_after with_workers old new words item rest options plain begins puts r =
     let o = opens with_workers old words item rest options plain begins r in
@@ -63,9 +63,9 @@ rest_before with_workers old new words item rest options known begins puts r = r
 
 -- an item that is of no rule, or was given, begins no rest of a command
 pub rest_refused : (with_workers : Bool) (given : Given) (words : List (List ℕ)) (item : Item) (rest : List (List ℕ)) (options : Options)
-    → IsPlain item.name → Begins words item rest
-    → (IsOfSome item (rules_of with_workers) → IsFree workers_rule item given.workers
-    → IsFree steps_rule item given.steps → IsFree width_rule item given.width → ⊥)
+    → HasNoEquals item.name → Begins words item rest
+    → (IsOfSome item (rules_of with_workers) → IsUngiven workers_rule item given.workers
+    → IsUngiven steps_rule item given.steps → IsUngiven width_rule item given.width → ⊥)
     → IsRest with_workers given words options → ⊥
 rest_refused with_workers given words item rest options plain begins refused r =
     let o = opens with_workers given words item rest options plain begins r in
@@ -76,7 +76,7 @@ rest_refused with_workers given words item rest options plain begins refused r =
 
 -- words that begin with no item don't fall into lawful items
 no_rest_at : (with_workers : Bool) (word : List ℕ) (after : List (List ℕ)) (items : List Item)
-    → ((item : Item) (rest : List (List ℕ)) → IsPlain item.name → Begins (word ∷ after) item rest → ⊥)
+    → ((item : Item) (rest : List (List ℕ)) → HasNoEquals item.name → Begins (word ∷ after) item rest → ⊥)
     → Falls (word ∷ after) items → AreItems (rules_of with_workers) items → ⊥
 no_rest_at with_workers word after [] none falls lawful = cc
 no_rest_at with_workers word after (first ∷ items) none falls lawful =
@@ -84,7 +84,7 @@ no_rest_at with_workers word after (first ∷ items) none falls lawful =
 
 -- so they are no rest of a command
 pub no_rest : (with_workers : Bool) (given : Given) (word : List ℕ) (after : List (List ℕ)) (options : Options)
-    → ((item : Item) (rest : List (List ℕ)) → IsPlain item.name → Begins (word ∷ after) item rest → ⊥)
+    → ((item : Item) (rest : List (List ℕ)) → HasNoEquals item.name → Begins (word ∷ after) item rest → ⊥)
     → IsRest with_workers given (word ∷ after) options → ⊥
 no_rest with_workers given word after options none r = no_rest_at with_workers word after r.items none r.falls r.lawful
 
@@ -144,7 +144,7 @@ pub record Continues (with_workers : Bool) (words : List (List ℕ)) (given : Gi
 
 -- after the item that was read the rest makes it one
 pub continues_after : (with_workers : Bool) (all : List (List ℕ)) (old new : Given) (words : List (List ℕ)) (item : Item) (rest : List (List ℕ))
-    → IsOfSome item (rules_of with_workers) → IsPlain item.name → Begins words item rest → PutsAll item old new
+    → IsOfSome item (rules_of with_workers) → HasNoEquals item.name → Begins words item rest → PutsAll item old new
     → Continues with_workers all old words → Continues with_workers all new rest
 continues_after with_workers all old new words item rest known plain begins puts before = record {
   to = λ options command.

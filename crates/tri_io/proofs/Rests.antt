@@ -5,7 +5,7 @@ use Rattle.std.specs.Option.{unwrap_or}
 use Rattle.std.specs.Str.{bytes_eq}
 use Rattle.std.proofs.lemmas.Slice.Eq.{bytes_eq-Decides}
 use Rattle.tri_io.specs.Commands.{Rule, Item, Falls, IsOfSome, has_name, AreItems, value_of, workers_rule, steps_rule, width_rule, rules_of, Options}
-use Rattle.tri_io.specs.Givens.{IsFree, Puts}
+use Rattle.tri_io.specs.Givens.{IsUngiven, Puts}
 use Rattle.tri_io.specs.declared.command.Given.{Given}
 
 -- the option's value where these items are still to come: what was given, and then they don't give it, or else theirs
@@ -73,7 +73,7 @@ kept_before false rule item items old new value e puts kept =
 
 -- an option that the next item gives was not given
 pub kept_free : (rule : Rule) (given : Option ℕ) (item : Item) (items : List Item) (value : ℕ)
-    → IsKept rule given (item ∷ items) value → IsFree rule item given
+    → IsKept rule given (item ∷ items) value → IsUngiven rule item given
 kept_free rule None item items value kept named = refl
 kept_free rule (Some number) item items value kept named =
     let once = rw ((bytes_eq-Decides item.name rule.name).1 named) at (kept.once number refl) in cc

@@ -6,7 +6,7 @@ use Rattle.std.specs.Str.Parse.{AllDigits, ParsesUnsigned, digits_value}
 use Rattle.std.proofs.lemmas.Grind.{get_or_default_zero}
 use Rattle.std.proofs.lemmas.Str.{digit_value_digit}
 use Rattle.std.proofs.lemmas.Str.Parse.{digits_value-take-le, numerals_by_value, parse_plain, tells_digits}
-use Rattle.tri_io.specs.Commands.{IsValue}
+use Rattle.tri_io.specs.Commands.{IsOptionValue}
 
 -- what begins with a digit other than 0 isn't 0
 some_value : (digits : List ℕ) → 49 ≤ get_or digits 0 0 → get_or digits 0 0 ≤ 57 → 1 ≤ digits_value 10 digits
@@ -18,7 +18,7 @@ some_value (c ∷ cs) low high =
 
 -- what begins with a digit other than 0 has no sign, so it is read as it stands
 pub value_read : (digits : List ℕ) (most value : ℕ) → 49 ≤ get_or digits 0 0 → get_or digits 0 0 ≤ 57
-    → ParsesUnsigned {E = Unit {0}} 32 10 digits (Ok value) → value ≤ most → IsValue digits most × (value ≡ digits_value 10 digits)
+    → ParsesUnsigned {E = Unit {0}} 32 10 digits (Ok value) → value ≤ most → IsOptionValue digits most × (value ≡ digits_value 10 digits)
 value_read digits most value low high parsed within =
     let read = parse_plain (numerals_by_value (AllDigits 10) tells_digits) {E = Unit {0}} 32 digits (Ok value) parsed (omega arith) in
     let some = some_value digits low high in (

@@ -3,7 +3,8 @@ use Rattle.std.specs.Prelude.{◌≡◌, ◌≢◌, ◌⊎◌, ℕ, ◌≤◌, B
 use Rattle.std.specs.Str.{bytes_eq}
 use Rattle.std.specs.Str.Parse.{IsNumeral, digits_value}
 
--- an option that may be given: its name, its greatest value (the least is 1), and its value elsewhere
+-- an option that may be given: its name, its greatest value (the least is 1), and its value where it
+-- isn't given
 pub record Rule : Type 0 where
   pub name : List ℕ
   pub most : ℕ
@@ -19,12 +20,12 @@ abbrev pub flag : Item → List ℕ
 flag item = codes "--" ++ item.name
 
 -- the option and its value in one word
-abbrev pub joined : Item → List ℕ
-joined item = codes "--" ++ (item.name ++ (codes "=" ++ item.value))
+abbrev pub single_word : Item → List ℕ
+single_word item = codes "--" ++ (item.name ++ (codes "=" ++ item.value))
 
 -- the words are the item, in one word or two, and then the rest
 abbrev pub Begins : List (List ℕ) → Item → List (List ℕ) → Type 0
-Begins words item rest = (words ≡ joined item ∷ rest) ⊎ (words ≡ flag item ∷ item.value ∷ rest)
+Begins words item rest = (words ≡ single_word item ∷ rest) ⊎ (words ≡ flag item ∷ item.value ∷ rest)
 
 -- the words are these items, one after the other
 abbrev pub Falls : List (List ℕ) → List Item → Type 0
@@ -32,7 +33,7 @@ Falls words [] = words ≡ []
 Falls words (item ∷ items) = (rest : List (List ℕ)) × Begins words item rest × Falls rest items
 
 -- the digits are a number without a sign and without a leading zero, from 1 to the greatest
-pub record IsValue (digits : List ℕ) (most : ℕ) : Type 0 where
+pub record IsOptionValue (digits : List ℕ) (most : ℕ) : Type 0 where
   pub number : IsNumeral 10 digits
   pub unpadded : get_or digits 0 48 ≢ 48
   pub some : 1 ≤ digits_value 10 digits
@@ -41,7 +42,7 @@ pub record IsValue (digits : List ℕ) (most : ℕ) : Type 0 where
 -- the item is of this rule: it has the name, and a value that may be given
 pub record IsOfRule (item : Item) (rule : Rule) : Type 0 where
   pub named : item.name ≡ rule.name
-  pub value : IsValue item.value rule.most
+  pub value : IsOptionValue item.value rule.most
 
 -- the item is of one of the rules
 abbrev pub IsOfSome : Item → List Rule → Type 0
@@ -56,12 +57,14 @@ has_name (item ∷ items) name = cond (bytes_eq item.name name) true (has_name i
 -- each item is of a rule, and no two have one name
 abbrev pub AreItems : List Rule → List Item → Type 0
 AreItems rules [] = Unit {0}
-AreItems rules (item ∷ items) = IsOfSome item rules × (has_name items item.name ≡ false) × AreItems rules items
+AreItems rules (item ∷ items) =
+    IsOfSome item rules × (has_name items item.name ≡ false) × AreItems rules items
 
 -- the value of the option of the rule: that of the first item with its name, or else its own
 abbrev pub value_of : Rule → List Item → ℕ
 value_of rule [] = rule.default
-value_of rule (item ∷ items) = cond (bytes_eq item.name rule.name) (digits_value 10 item.value) (value_of rule items)
+value_of rule (item ∷ items) =
+    cond (bytes_eq item.name rule.name) (digits_value 10 item.value) (value_of rule items)
 
 -- how many workers, for the program that has several
 abbrev pub workers_rule : Rule
@@ -87,7 +90,8 @@ pub record Options : Type 0 where
   pub width : ℕ
 
 -- the words are the command with these options
-pub record IsCommand (with_workers : Bool) (words : List (List ℕ)) (options : Options) : Type 0 where
+pub record IsCommand (with_workers : Bool) (words : List (List ℕ)) (options : Options)
+    : Type 0 where
   pub items : List Item
   pub falls : Falls words items
   pub lawful : AreItems (rules_of with_workers) items
@@ -97,4 +101,6 @@ pub record IsCommand (with_workers : Bool) (words : List (List ℕ)) (options : 
 
 -- no words are two commands
 abbrev pub CommandsAreKnown : Type 0
-CommandsAreKnown = (with_workers : Bool) (words : List (List ℕ)) (a b : Options) → IsCommand with_workers words a → IsCommand with_workers words b → a ≡ b
+CommandsAreKnown =
+    (with_workers : Bool) (words : List (List ℕ)) (a b : Options)
+    → IsCommand with_workers words a → IsCommand with_workers words b → a ≡ b

@@ -4,19 +4,19 @@ use Rattle.std.specs.Str.Parse.{digits_value}
 use Rattle.tri_io.specs.Commands.{Rule, Item}
 
 -- a name that ends where its value begins: it has no equals sign
-abbrev pub IsPlain : List ℕ → Type 0
-IsPlain name = All (λ byte. byte ≢ 61) name
+abbrev pub HasNoEquals : List ℕ → Type 0
+HasNoEquals name = All (λ byte. byte ≢ 61) name
 
 -- the item of this name and this value
 abbrev pub item_of : List ℕ → List ℕ → Item
 item_of name value = record { name = name; value = value }
 
 -- the item's value has a place: none was given where its name is the rule's
-abbrev pub IsFree : Rule → Item → Option ℕ → Type 0
-IsFree rule item given = item.name ≡ rule.name → given ≡ None
+abbrev pub IsUngiven : Rule → Item → Option ℕ → Type 0
+IsUngiven rule item given = item.name ≡ rule.name → given ≡ None
 
 -- the rule's value after the item: the item's, where its name is the rule's, and else what it was
 pub record Puts (rule : Rule) (item : Item) (old new : Option ℕ) : Type 0 where
-  pub free : IsFree rule item old
+  pub free : IsUngiven rule item old
   pub own : item.name ≡ rule.name → new ≡ Some (digits_value 10 item.value)
   pub other : item.name ≢ rule.name → new ≡ old

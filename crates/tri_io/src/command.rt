@@ -1,8 +1,8 @@
 ghost use Rattle.std.specs.Prelude.{◌≡◌, ℕ, List, ◌∷◌, map, IsNone, IfSome, IfOk, OnOk, OnErr, IsErrOf, SomeIff};
 ghost use Rattle.std.specs.String.{string_bytes};
 ghost use Rattle.std.specs.Str.Parse.{digits_value};
-ghost use Rattle.tri_io.specs.Commands.{Item, Begins, IsValue, IsOfSome, rules_of, workers_rule, steps_rule, width_rule, Options, IsCommand, CommandsAreKnown};
-ghost use Rattle.tri_io.specs.Givens.{IsPlain, item_of, IsFree, Puts};
+ghost use Rattle.tri_io.specs.Commands.{Item, Begins, IsOptionValue, IsOfSome, rules_of, workers_rule, steps_rule, width_rule, Options, IsCommand, CommandsAreKnown};
+ghost use Rattle.tri_io.specs.Givens.{HasNoEquals, item_of, IsUngiven, Puts};
 
 use std::alloc::AllocError;
 use std::marker::Model;
@@ -106,8 +106,8 @@ pub fn commands_are_known()
 fn first_item<'a>(word: &'a str, after: &'a [String]) -> Option<(&'a str, &'a str, &'a [String])>
     ensures begins { IfSome result (λ x. Begins (word.now ∷ map string_bytes after.now)
         (item_of x.0.now x.1.now) (map string_bytes x.2.now)) }
-    ensures plain { IfSome result (λ x. IsPlain x.0.now) }
-    ensures none { IsNone result → (item : Item) (rest : List (List ℕ)) → IsPlain item.name
+    ensures plain { IfSome result (λ x. HasNoEquals x.0.now) }
+    ensures none { IsNone result → (item : Item) (rest : List (List ℕ)) → HasNoEquals item.name
         → Begins (word.now ∷ map string_bytes after.now) item rest → ⊥ }
 {
     let text = word.strip_prefix("--")?;
@@ -138,9 +138,9 @@ impl Given {
         ensures cause { OnErr result (IsErrOf result WordsFault.NotACommand) }
         ensures refused { OnErr result
             (IsOfSome (item_of name.now value.now) (rules_of with_workers)
-            → IsFree workers_rule (item_of name.now value.now) self.old.workers
-            → IsFree steps_rule (item_of name.now value.now) self.old.steps
-            → IsFree width_rule (item_of name.now value.now) self.old.width → ⊥) }
+            → IsUngiven workers_rule (item_of name.now value.now) self.old.workers
+            → IsUngiven steps_rule (item_of name.now value.now) self.old.steps
+            → IsUngiven width_rule (item_of name.now value.now) self.old.width → ⊥) }
     {
         match name {
             "workers" if with_workers => fill(&mut self.workers, value, MOST_WORKERS),
@@ -153,10 +153,10 @@ impl Given {
 
 // Puts the number that the digits are into an empty slot.
 fn fill(slot: &mut Option<u32>, digits: &str, most: u32) -> Result<(), WordsFault>
-    ensures ok { OnOk result ((slot.old ≡ None) × IsValue digits.now most
+    ensures ok { OnOk result ((slot.old ≡ None) × IsOptionValue digits.now most
         × (slot.new ≡ Some (digits_value 10 digits.now))) }
     ensures cause { OnErr result (IsErrOf result WordsFault.NotACommand) }
-    ensures refused { OnErr result (slot.old ≡ None → IsValue digits.now most → ⊥) }
+    ensures refused { OnErr result (slot.old ≡ None → IsOptionValue digits.now most → ⊥) }
 {
     match (*slot, value_of(digits, most)) {
         (None, Some(value)) => {
@@ -169,7 +169,7 @@ fn fill(slot: &mut Option<u32>, digits: &str, most: u32) -> Result<(), WordsFaul
 
 // The number that the digits are. The first shows that there is no sign and no leading zero.
 fn value_of(digits: &str, most: u32) -> Option<u32>
-    ensures { SomeIff result (IsValue digits.now most) (digits_value 10 digits.now) }
+    ensures { SomeIff result (IsOptionValue digits.now most) (digits_value 10 digits.now) }
 {
     match digits.as_bytes() {
         [b'1'..=b'9', ..] => match digits.parse::<u32>() {

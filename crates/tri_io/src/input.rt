@@ -1,4 +1,4 @@
-ghost use Rattle.std.specs.Prelude.{◌≤◌, IsErrOf};
+ghost use Rattle.std.specs.Prelude.{◌≡◌, ◌≢◌, ◌≤◌, IsErrOf};
 ghost use Rattle.tri_io.specs.Faults.{Rose};
 ghost use Rattle.tri_io.specs.Transfers.{ReadsAll};
 
@@ -40,6 +40,7 @@ pub fn read_all<S: Source>(alloc: Global, source: &mut S, most: usize) -> Result
     ensures never_falls { S.faults source.old ≤ S.faults source.new }
     ensures cause { IsErrOf result ReadFail.Fault →
         Rose (S.faults source.old) (S.faults source.new) }
+    ensures answered { S.faults source.new ≢ S.faults source.old → IsErrOf result ReadFail.Fault }
 {
     let mut bytes = Vec::new(alloc);
     let mut buf = [0; PIECE];

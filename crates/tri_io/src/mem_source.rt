@@ -1,4 +1,4 @@
-ghost use Rattle.std.specs.Prelude.{◌≡◌, ℕ, ◌+◌, ◌<◌, ◌≤◌, ◌↔◌, List, Option, Some, length, take, drop, min, IsErr, IfOk, OnErr, Contains};
+ghost use Rattle.std.specs.Prelude.{◌≡◌, ℕ, ◌+◌, ◌<◌, ◌≤◌, ◌↔◌, List, Option, Some, length, take, drop, min, IsErr, IfOk, OnOk, OnErr, Contains};
 ghost use Rattle.std.specs.Io.KnownBytes.{ReadConsumes};
 ghost use Rattle.tri_io.specs.Faults.{Rose, raised};
 
@@ -65,6 +65,7 @@ impl Source for MemSource {
         ensures bytes { ReadConsumes (Some self.old.left) (Some self.new.left) result buf.new }
         ensures never_falls { self.old.faults ≤ self.new.faults }
         ensures cause { OnErr result (Rose self.old.faults self.new.faults) }
+        ensures kept { OnOk result (self.new.faults ≡ self.old.faults) }
 
         // The call fails exactly where its number is listed.
         ensures fails { IsErr result ↔ Contains self.old.fails (raised self.old.calls) }

@@ -13,6 +13,7 @@ pub fn write_all<K: Sink>(sink: &mut K, bytes: &[u8]) -> Result<(), Failed>
     ensures part { OnErr result (AppendsPart (K.taken sink.old) (K.taken sink.new) bytes.now) }
     ensures never_falls { K.faults sink.old ≤ K.faults sink.new }
     ensures cause { OnErr result (Rose (K.faults sink.old) (K.faults sink.new)) }
+    ensures kept { OnOk result (K.faults sink.new ≡ K.faults sink.old) }
     ensures nothing { bytes.now ≡ [] → sink.new ≡ sink.old }
 {
     let mut done = 0;

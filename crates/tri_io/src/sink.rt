@@ -1,4 +1,4 @@
-ghost use Rattle.std.specs.Prelude.{ℕ, ◌<◌, ◌≤◌, List, Option, length, IfOk, OnErr};
+ghost use Rattle.std.specs.Prelude.{◌≡◌, ℕ, ◌<◌, ◌≤◌, List, Option, length, IfOk, OnOk, OnErr};
 ghost use Rattle.std.specs.Io.KnownBytes.{WriteAppends};
 ghost use Rattle.tri_io.specs.Faults.{Rose};
 
@@ -17,5 +17,6 @@ pub trait Sink {
         ensures some { IfOk result (λ n. 0 < length piece.now → 0 < n) }
         ensures bytes { WriteAppends (taken self.old) (taken self.new) result piece.now }
         ensures never_falls { faults self.old ≤ faults self.new }
-        ensures cause { OnErr result (Rose (faults self.old) (faults self.new)) };
+        ensures cause { OnErr result (Rose (faults self.old) (faults self.new)) }
+        ensures kept { OnOk result (faults self.new ≡ faults self.old) };
 }

@@ -8,16 +8,18 @@ use std::test::Fail;
 
 const LETTERS: &[u8] = b"abcdefg";
 
-// Gives its bytes two a call. Where it breaks, an error stands in place of the end.
+// Gives its bytes two a call. The call of this number fails, and those after it go on.
 #[derive(Drop)]
 struct TwoByTwo<'a> {
     left: &'a [u8],
-    breaks: bool,
+    calls: u32,
+    fails: u32,
 }
 
 impl<'a> Read for TwoByTwo<'a> {
     fn read(&mut self, buf: &mut [u8]) -> io::Result<usize> {
-        if self.left.is_empty() && self.breaks {
+        self.calls = self.calls.saturating_add(1);
+        if self.calls == self.fails {
             return Err(ErrorKind::Other.into());
         }
         let count = self.left.len().min(buf.len()).min(2);
@@ -34,7 +36,7 @@ enum Full {
     Error,
 }
 
-// Counts the bytes that it takes, three a call at most.
+// Counts the bytes that it takes, three a call at most. Once it was full it has room for more.
 #[derive(Drop)]
 struct Counter {
     room: usize,
@@ -44,6 +46,7 @@ struct Counter {
 impl Write for Counter {
     fn write(&mut self, buf: &[u8]) -> io::Result<usize> {
         if self.room == 0 {
+            self.room = LETTERS.len();
             return match self.full {
                 Full::Nothing => Ok(0),
                 Full::Error => Err(ErrorKind::Other.into()),
@@ -189,14 +192,19 @@ fn a_failed_call_may_be_made_again(rt: HostRuntime) -> Result<(), Fail> {
 #[test]
 fn a_reader_of_std_is_a_source(rt: HostRuntime) -> Result<(), Fail> {
     let alloc = rt.alloc();
-    for (breaks, most, want) in [
-        (false, 7, Want::Whole),
-        (false, 6, Want::TooLong),
-        (true, 7, Want::Fault),
+    for (fails, most, want) in [
+        (0, 7, Want::Whole),
+        (0, 6, Want::TooLong),
+        // A source that asked again would be read to its end.
+        (1, 7, Want::Fault),
+        (3, 7, Want::Fault),
+        // In place of the end.
+        (5, 7, Want::Fault),
     ] {
         let mut source = StdSource::new(TwoByTwo {
             left: LETTERS,
-            breaks,
+            calls: 0,
+            fails,
         });
         check_read(&rt, alloc, &mut source, most, want, LETTERS)?;
     }
@@ -211,11 +219,37 @@ fn a_reader_of_std_is_a_source(rt: HostRuntime) -> Result<(), Fail> {
 }
 
 #[test]
+fn a_call_after_a_fault_of_std_goes_on(rt: HostRuntime) -> Result<(), Fail> {
+    let mut buf = [0; 3];
+    let mut source = StdSource::new(TwoByTwo {
+        left: LETTERS,
+        calls: 0,
+        fails: 2,
+    });
+    assert_eq!(rt; source.read(&mut buf), Ok(2));
+    assert_eq!(rt; source.read(&mut buf), Err(Failed));
+    assert_eq!(rt; buf, [b'a', b'b', 0], "the buffer is as it was");
+    assert_eq!(rt; source.read(&mut buf), Ok(2));
+    assert_eq!(rt; buf, [b'c', b'd', 0]);
+
+    let mut sink = StdSink::new(Counter {
+        room: 2,
+        full: Full::Error,
+    });
+    assert_eq!(rt; sink.write(LETTERS), Ok(2));
+    assert_eq!(rt; sink.write(LETTERS), Err(Failed));
+    assert_eq!(rt; sink.write(LETTERS), Ok(3));
+    Ok(())
+}
+
+#[test]
 fn a_writer_of_std_is_a_sink(rt: HostRuntime) -> Result<(), Fail> {
     for (room, full, want) in [
         (7, Full::Error, Ok(())),
+        // A sink that asked again would write all.
         (6, Full::Error, Err(Failed)),
         (6, Full::Nothing, Err(Failed)),
+        (0, Full::Error, Err(Failed)),
     ] {
         let mut sink = StdSink::new(Counter { room, full });
         assert_eq!(rt; write_all(&mut sink, LETTERS), want);

@@ -5,14 +5,14 @@ use Rattle.std.specs.String.{string_bytes}
 use Rattle.std.proofs.lemmas.List.{length-map}
 use Rattle.std.proofs.lemmas.List.Elements.{All-from_get_or}
 use Rattle.std.proofs.lemmas.Str.Pattern.{split_parts}
-use Rattle.tri_io.specs.Givens.{IsPlain}
+use Rattle.tri_io.specs.Givens.{HasNoEquals}
 use Rattle.tri_io.proofs.Items.{unfinished}
 use Rattle.tri_io.proofs.command.first_item.Goals as goal
 
 pub returns-in_err-value-in-None-clause-none : goal.returns-in_err-value-in-None-clause-none
 returns-in_err-value-in-None-clause-none c none item rest _ begins =
     let cut = split_parts 61 c.in_ok-text.text.now c.split_once.result c.split_once.ensures.cases (omega arith) in
-    let plain : IsPlain c.in_ok-text.text.now = All-from_get_or (λ b. b ≢ 61) c.in_ok-text.text.now 0 (rw c.in-None.is at cut) in
+    let plain : HasNoEquals c.in_ok-text.text.now = All-from_get_or (λ b. b ≢ 61) c.in_ok-text.text.now 0 (rw c.in-None.is at cut) in
     let cases = c.in_ok-text.ensures.cases in
     let spelled : c.args.word.now ≡ codes "--" ++ c.in_ok-text.text.now = cc in
     let empty : length (map string_bytes c.args.after.now) ≡ 0 =

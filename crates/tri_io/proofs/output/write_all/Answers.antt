@@ -1,5 +1,5 @@
 -- What a write took stands behind what was taken before.
-use Rattle.std.proofs.Common.{arith}
+use Rattle.std.proofs.Common.{arith, ◌∙◌}
 use Rattle.std.proofs.lemmas.List.{length-drop, take_rest}
 use Rattle.tri_io.proofs.Bytes.{Appends-take}
 use Rattle.tri_io.proofs.output.write_all.Goals as goal
@@ -12,7 +12,7 @@ loop-done-preserved g c =
     let not_done = c.loop-done-test.true in (
       omega (arith, not_done, within),
       Appends-take _ _ _ c.args.bytes.now _ _ c.loop-done.invariant.1 taken,
-      omega (arith, c.loop-done.invariant.2, c.in_ok-done.ensures.never_falls),
+      c.in_ok-done.ensures.kept ∙ c.loop-done.invariant.2,
       -- of an empty list no write is made
       λ empty. let none = rw empty at not_done in absurd (omega (arith, none)),
     )

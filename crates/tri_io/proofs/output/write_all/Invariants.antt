@@ -7,7 +7,7 @@ abbrev pub invariant-loop-done : goal.invariant-loop-done
 invariant-loop-done g l =
     (l.done ≤ length l.bytes)
     × Appends (g.K.Sink.taken l.initial.sink) (g.K.Sink.taken l.sink) (take l.done l.bytes)
-    × (g.K.Sink.faults l.initial.sink ≤ g.K.Sink.faults l.sink)
+    × (g.K.Sink.faults l.sink ≡ g.K.Sink.faults l.initial.sink)
     × (l.bytes ≡ [] → l.sink ≡ l.initial.sink)
 
 abbrev pub decreases-loop-done : goal.decreases-loop-done
