@@ -17,7 +17,8 @@ countdown n =
 
 -- a step that is one of two is lawful where both are
 lawful_choice : (b : Bool) (one other : Step ℕ ℕ)
-    → IsLawfulStep (λ _. Unit {0}) (λ _. Unit {0}) one → IsLawfulStep (λ _. Unit {0}) (λ _. Unit {0}) other
+    → IsLawfulStep (λ _. Unit {0}) (λ _. Unit {0}) one
+    → IsLawfulStep (λ _. Unit {0}) (λ _. Unit {0}) other
     → IsLawfulStep (λ _. Unit {0}) (λ _. Unit {0}) (if b then one else other)
 lawful_choice true one other of_one of_other = of_one
 lawful_choice false one other of_one of_other = of_other
@@ -29,5 +30,6 @@ countdown_is_lawful n =
     (lawful_choice (n == 1) _ _ tt
     (lawful_choice (n == 2) _ _ tt
     (lawful_choice (n == 3) (Kids (0 ∷ [])) _ (lit< tt, lit< tt, (tt, tt))
-    (lawful_choice (n == 4) (Kids (1 ∷ 1 ∷ [])) (Kids ((n - 1) ∷ (n - 2) ∷ (n - 3) ∷ [])) (lit< tt, lit< tt, (tt, (tt, tt)))
+    (lawful_choice (n == 4) (Kids (1 ∷ 1 ∷ [])) (Kids ((n - 1) ∷ (n - 2) ∷ (n - 3) ∷ []))
+    (lit< tt, lit< tt, (tt, (tt, tt)))
     (lit< tt, lit< tt, (tt, (tt, (tt, tt))))))))

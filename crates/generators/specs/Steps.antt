@@ -23,7 +23,8 @@ GivesWayTo kids met old new (turn.Event event) = (new ≡ kids ++ old) × (met �
 GivesWayTo kids met old new Done = ⊥
 
 -- nothing was met, and this child waits in front now
-abbrev pub IsQuietWith : {T L : Type 0} → Place T → List (Place T) → List (Place T) → Turn L → Type 0
+abbrev pub IsQuietWith : {T L : Type 0}
+    → Place T → List (Place T) → List (Place T) → Turn L → Type 0
 IsQuietWith only old new Quiet = new ≡ only ∷ old
 IsQuietWith only old new (turn.Event event) = ⊥
 IsQuietWith only old new Done = ⊥

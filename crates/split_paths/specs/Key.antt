@@ -15,7 +15,8 @@ abbrev pub IsTrueOffer : {T : Type 0} → List (Place T) → Place T → Type 0
 IsTrueOffer offers offer = Contains offers offer
 
 -- a key is that of a tree whose root has the empty path
-pub record IsTreeKey {T L : Type 0} (events : List (Event L)) (offers : List (Place T)) : Type 0 where
+pub record IsTreeKey {T L : Type 0} (events : List (Event L)) (offers : List (Place T))
+    : Type 0 where
   pub step : T → Step T L
   pub root : Place T
   pub whole : root.path ≡ []

@@ -87,4 +87,5 @@ EmittedLeavesAreLawful {T} step lawful_task lawful_leaf =
 
 -- the answer of events is made of the answers of their parts
 abbrev pub AnswersJoin : Type 0 → Type 0
-AnswersJoin L = (xs ys : List (Event L)) → answer_of (xs ++ ys) ≡ joined (answer_of xs) (answer_of ys)
+AnswersJoin L =
+    (xs ys : List (Event L)) → answer_of (xs ++ ys) ≡ joined (answer_of xs) (answer_of ys)

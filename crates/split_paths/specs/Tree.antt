@@ -80,4 +80,5 @@ module _ {T L : Type 0} (step : T → Step T L) where
 
   -- how many steps are still to come: one for each place with a step left
   abbrev pub steps_to_come : List (Place T) → ℕ
-  steps_to_come waiting = count_by (λ (place : Place T). nat_lt 0 place.steps) (offers_to_come waiting)
+  steps_to_come waiting =
+      count_by (λ (place : Place T). nat_lt 0 place.steps) (offers_to_come waiting)
