@@ -2,11 +2,11 @@
 use Rattle.std.proofs.Common.{◌≡◌, ℕ, ◌≤◌, List, [], ◌∷◌}
 use Rattle.std.specs.List.{AllByRecursion}
 use Rattle.polynomials.specs.Polynomials.{Polynomial, IsPolynomial, ArePolynomials}
-use Rattle.polynomials.specs.Views.{degree_in}
+use Rattle.polynomials.specs.Views.{degree_in, AreFreeOf}
 use Rattle.zero_sets.specs.Tasks.{Task}
 use Rattle.impose_rules.proofs.ChainParts.{canonical_each}
 use Rattle.impose_rules.proofs.Lists.{each_implied}
-use Rattle.impose_laws.specs.TaskForms.{IsTaskOver, AreFreeOf, IsTaskFreeOf}
+use Rattle.impose_laws.specs.TaskForms.{IsTaskOver, IsTaskFreeOf}
 use Rattle.case_laws.specs.Lawful.{IsLawfulPolynomial, AreLawfulPolynomials, IsLawfulTask}
 
 -- no degree of f is greater than 65,535

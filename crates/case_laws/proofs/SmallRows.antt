@@ -1,5 +1,5 @@
 -- Reductions and remainder rows within a width have degrees of at most 65,535.
-use Rattle.std.proofs.Common.{◌≡◌, ℕ, zero, suc, ◌-◌, true, false, eqb, List, [], ◌∷◌, Option, Some, None, IfSome, refl}
+use Rattle.std.proofs.Common.{◌≡◌, ℕ, zero, suc, ◌-◌, true, false, eqb, List, [], ◌∷◌, Option, Some, None, IfSome, refl, unwrap_or}
 use Rattle.std.specs.List.{AllByRecursion}
 use Rattle.polynomials.specs.Polynomials.{Polynomial, negative_of, product_of, is_zero}
 use Rattle.polynomials.specs.Views.{degree_in}
@@ -8,7 +8,7 @@ use Rattle.division_rules.specs.Operations.{Operations, lead, shifted_lead}
 use Rattle.division_rules.specs.Lists.{list_operations}
 use Rattle.division_rules.specs.Rows.{Row, is_reduced_by, turns}
 use Rattle.division_rules.specs.Chains.{EachRow}
-use Rattle.division_rules.specs.RemainderRows.{Rows, with_row, or_else, row_of, quotients, divided, Memory, fall, leads}
+use Rattle.division_rules.specs.RemainderRows.{LaterRows, with_row, row_of, quotients, divided, TurnBefore, fall, leads}
 use Rattle.division_rules.specs.RemainderRowsWithin.{psi_within, beta_within, undivided_within, rows_onward, rows_from_within, remainder_rows_within}
 use Rattle.division_rules.specs.Turns.{last_row}
 use Rattle.division_rules.specs.Within.{and_then, times_within, cross_within, cross_all_within, row_within, elimination_within, sparse_remainder_by_within, sparse_remainder_within, times_all_within, times_row_within, pseudo_remainder_by_within, pseudo_remainder_within, reduction_within}
@@ -24,7 +24,7 @@ abbrev pub IsSmallRow : Row Polynomial → Type 0
 IsSmallRow f = IsSmall f.first
 
 -- rows of which each later one is
-abbrev pub AreSmallRows : Rows Polynomial → Type 0
+abbrev pub AreSmallRows : LaterRows Polynomial → Type 0
 AreSmallRows rows = EachRow IsSmallRow rows.later
 
 module _ (p n w : ℕ) where
@@ -68,33 +68,33 @@ module _ (p n w : ℕ) where
   undivided_small v chain f g = then_follows IsSmallRow IsSmallRow (pseudo_remainder_within o w v f g) (λ h. reduction_within o w chain h) (then_follows IsSmallRow IsSmallRow (elim (is_reduced_by o v g f) [ true ↦ times_row_within o w (lead o v g.first) f | false ↦ elimination_within o w v f g ]) (λ h. pseudo_remainder_by_within o w v g (degree_in v f.first - degree_in v g.first) h) (turn_small v f g) (λ h small_h. pseudo_remainder_small v g (degree_in v f.first - degree_in v g.first) h small_h)) (λ h small_h. reduction_small chain h small_h)
 
   -- a quotient within the width is small, and else the row stays
-  divided_small : (b : Polynomial) (s : Row Polynomial) → IsSmallRow s → IsSmallRow (or_else (divided o w b s) s)
+  divided_small : (b : Polynomial) (s : Row Polynomial) → IsSmallRow s → IsSmallRow (unwrap_or (divided o w b s) s)
   divided_small b s small = go (quotient_within p w s.first b) refl (quotients o w b s.cofactors)
     where
-      go : (x : Option Polynomial) → quotient_within p w s.first b ≡ x → (ys : Option (List Polynomial)) → IsSmallRow (or_else (row_of x ys) s)
+      go : (x : Option Polynomial) → quotient_within p w s.first b ≡ x → (ys : Option (List Polynomial)) → IsSmallRow (unwrap_or (row_of x ys) s)
       go None e ys = small
       go (Some x) e None = small
       go (Some x) e (Some ys) = quotient_small p w s.first b x e
 
-  onward_small : (v : ℕ) (further : Memory o → Row Polynomial → Row Polynomial → Option (Rows Polynomial)) → ((m : Memory o) (f g : Row Polynomial) → IfSome (further m f g) AreSmallRows) → (f g s : Row Polynomial) (q b : Polynomial) → IsSmallRow s → IfSome (rows_onward o w v further f g s q b) AreSmallRows
+  onward_small : (v : ℕ) (further : TurnBefore o → Row Polynomial → Row Polynomial → Option (LaterRows Polynomial)) → ((m : TurnBefore o) (f g : Row Polynomial) → IfSome (further m f g) AreSmallRows) → (f g s : Row Polynomial) (q b : Polynomial) → IsSmallRow s → IfSome (rows_onward o w v further f g s q b) AreSmallRows
   onward_small v further each f g s q b small =
-      let h = or_else (divided o w b s) s in
+      let h = unwrap_or (divided o w b s) s in
       choose (λ x. IfSome x AreSmallRows) (eqb (degree_in v h.first) 0) (Some (record { later = h ∷ []; last = None })) (and_then (further (Some (q, fall o v f g)) g h) (λ rows. Some (with_row h rows))) (λ e. (divided_small b s small, tt)) (λ e. then_follows AreSmallRows AreSmallRows (further (Some (q, fall o v f g)) g h) (λ rows. Some (with_row h rows)) (each (Some (q, fall o v f g)) g h) (λ rows small_rows. (divided_small b s small, small_rows)))
 
-  rows_from_small : (v : ℕ) (chain : List (Row Polynomial)) (k : ℕ) (m : Memory o) (f g : Row Polynomial) → IfSome (rows_from_within o w v chain k m f g) AreSmallRows
+  rows_from_small : (v : ℕ) (chain : List (Row Polynomial)) (k : ℕ) (m : TurnBefore o) (f g : Row Polynomial) → IfSome (rows_from_within o w v chain k m f g) AreSmallRows
   rows_from_small v chain zero m f g = tt
   rows_from_small v chain (suc k) m f g = then_follows IsSmallRow AreSmallRows (undivided_within o w v chain f g) by_row (undivided_small v chain f g) (λ s small_s. choose (λ x. IfSome x AreSmallRows) (is_zero s.first) (Some (record { later = []; last = Some s })) (divided_rows s) (λ e. tt) (λ e. then_holds AreSmallRows (psi_within o w m (lead o v f.first)) (by_psi s) (λ q made_q. then_holds AreSmallRows (beta_within o w m (lead o v f.first) q (fall o v f g)) (by_beta s q) (λ b made_b. onward_small v (λ l x y. rows_from_within o w v chain k l x y) (λ l x y. rows_from_small v chain k l x y) f g s q b small_s))))
     where
-      by_beta : Row Polynomial → Polynomial → Polynomial → Option (Rows Polynomial)
+      by_beta : Row Polynomial → Polynomial → Polynomial → Option (LaterRows Polynomial)
       by_beta s q b = rows_onward o w v (λ l x y. rows_from_within o w v chain k l x y) f g s q b
 
-      by_psi : Row Polynomial → Polynomial → Option (Rows Polynomial)
+      by_psi : Row Polynomial → Polynomial → Option (LaterRows Polynomial)
       by_psi s q = and_then (beta_within o w m (lead o v f.first) q (fall o v f g)) (by_beta s q)
 
-      divided_rows : Row Polynomial → Option (Rows Polynomial)
+      divided_rows : Row Polynomial → Option (LaterRows Polynomial)
       divided_rows s = and_then (psi_within o w m (lead o v f.first)) (by_psi s)
 
-      by_row : Row Polynomial → Option (Rows Polynomial)
+      by_row : Row Polynomial → Option (LaterRows Polynomial)
       by_row s = elim (is_zero s.first) [ true ↦ Some (record { later = []; last = Some s }) | false ↦ divided_rows s ]
 
   -- so remainder rows are small, whatever they start with

@@ -7,7 +7,7 @@ use Rattle.zero_sets.specs.ZeroSets.{member_in, members_below}
 use Rattle.zero_sets.specs.Tasks.{Task, is_known_nonzero, with_nonzero}
 use Rattle.division_rules.specs.Lists.{list_operations}
 use Rattle.division_rules.specs.Rows.{Row, plain, plains}
-use Rattle.division_rules.specs.RemainderRows.{Rows, leads}
+use Rattle.division_rules.specs.RemainderRows.{LaterRows, leads}
 use Rattle.division_rules.specs.RemainderRowsWithin.{remainder_rows_within}
 use Rattle.division_rules.specs.Turns.{last_row}
 use Rattle.division_rules.specs.Within.{reduction_within}
@@ -71,7 +71,7 @@ module _ (p n w : ℕ) (chain rest ns : List Polynomial) (small_chain : AreSmall
     common_child_small ls last small small_last None = tt
     common_child_small ls last small small_last (Some z) = ((with_member_small v ls last small_last, small_rest, with_all_nonzero_small p ns ls small small_ns), tt)
 
-    row_children_small : (rows : Rows Polynomial) → AreSmallRows rows → AreSmallTasks (children_by_rows p n w chain rest ns v r rows)
+    row_children_small : (rows : LaterRows Polynomial) → AreSmallRows rows → AreSmallTasks (children_by_rows p n w chain rest ns v r rows)
     row_children_small rows small =
         let ls = leads (list_operations p n) v (plain r ∷ rows.later) in
         let small_ls = leads_small p n w v (plain r ∷ rows.later) (small_r, small) in

@@ -4,7 +4,7 @@ use Rattle.polynomials.specs.Polynomials.{Polynomial}
 use Rattle.polynomials.specs.Views.{degree_in}
 use Rattle.division_rules.specs.Lists.{list_operations}
 use Rattle.division_rules.specs.Rows.{Row}
-use Rattle.division_rules.specs.RemainderRows.{Memory, fall, next_psi}
+use Rattle.division_rules.specs.RemainderRows.{TurnBefore, fall, next_psi}
 use Rattle.division_rules.specs.Turns.{last_row}
 use Rattle.division_rules.specs.Cofactors.{first_cofactor, AreCofactorSteps}
 use Rattle.cofactor_laws.specs.RowsWithCofactors.{row_of_c, row_of_t, rows_of_chain, rows_with_cofactors}
@@ -16,7 +16,7 @@ pub cofactors_grow_by_falls : CofactorsGrowByFalls
 cofactors_grow_by_falls p n w v c t chain prime are start = list_steps p n prime w v c t chain are start
 
 -- the last of them has the sum of the degrees
-total_of_steps : (p n w v : ℕ) (chain : List (Row Polynomial)) (total : ℕ) (m : Memory (list_operations p n)) (f g : Row Polynomial) (later : List (Row Polynomial)) (z : Row Polynomial) → AreCofactorSteps (list_operations p n) w v chain total m f g later (Some z) → degree_in v (first_cofactor (list_operations p n) z) + degree_in v (last_row g later).first ≡ total
+total_of_steps : (p n w v : ℕ) (chain : List (Row Polynomial)) (total : ℕ) (m : TurnBefore (list_operations p n)) (f g : Row Polynomial) (later : List (Row Polynomial)) (z : Row Polynomial) → AreCofactorSteps (list_operations p n) w v chain total m f g later (Some z) → degree_in v (first_cofactor (list_operations p n) z) + degree_in v (last_row g later).first ≡ total
 total_of_steps p n w v chain total m f g [] z steps = steps.1
 total_of_steps p n w v chain total m f g (h ∷ later) z steps = total_of_steps p n w v chain total (Some (next_psi (list_operations p n) w v m f, fall (list_operations p n) v f g)) g h later z steps.1
 

@@ -7,7 +7,7 @@ use Rattle.division_rules.specs.Lists.{list_operations}
 use Rattle.division_rules.specs.Operations.{lead}
 use Rattle.division_rules.specs.Points.{IsInitial, AreInitials}
 use Rattle.division_rules.specs.Rows.{Row}
-use Rattle.division_rules.specs.RemainderRows.{divided, Memory, fall, next_psi, next_beta, undivided}
+use Rattle.division_rules.specs.RemainderRows.{divided, TurnBefore, fall, next_psi, next_beta, undivided}
 use Rattle.division_rules.specs.Cofactors.{first_cofactor, divisor_used, next_divisor, IsCofactorStep, AreCofactorSteps}
 use Rattle.division_rules.proofs.CanonicalViews.{canonical_operations}
 use Rattle.division_rules.proofs.Down.{terms_all, down, down_all, terms-power_of}
@@ -47,7 +47,7 @@ module _ (p n : ℕ) (many : 1 < p) where
   terms-divisor_used None b = refl
   terms-divisor_used (Some h) b = refl
 
-  terms-next_divisor : (w v : ℕ) (chain : List (Row (CanonicalPolynomial p n))) (m : Memory (canonical_operations p n many)) (f g : Row (CanonicalPolynomial p n)) → (next_divisor (canonical_operations p n many) w v chain m f g).0 ≡ next_divisor (list_operations p n) w v (down_all p n many chain) (down_memory p n many m) (down p n many f) (down p n many g)
+  terms-next_divisor : (w v : ℕ) (chain : List (Row (CanonicalPolynomial p n))) (m : TurnBefore (canonical_operations p n many)) (f g : Row (CanonicalPolynomial p n)) → (next_divisor (canonical_operations p n many) w v chain m f g).0 ≡ next_divisor (list_operations p n) w v (down_all p n many chain) (down_memory p n many m) (down p n many f) (down p n many g)
   terms-next_divisor w v chain m f g = terms-divisor_used (divided (canonical_operations p n many) w b s) b ∙ ap₂ (divisor_used (list_operations p n)) (down-divided p n many w b s ∙ ap₂ (divided (list_operations p n) w) (terms-next_beta p n many w v m f g) (down-undivided p n many v chain f g)) (terms-next_beta p n many w v m f g)
     where
       b : CanonicalPolynomial p n
@@ -57,7 +57,7 @@ module _ (p n : ℕ) (many : 1 < p) where
       s = undivided (canonical_operations p n many) v chain f g
 
   -- all steps
-  pub down_steps : (w v : ℕ) (chain : List (Row (CanonicalPolynomial p n))) (total : ℕ) (m : Memory (canonical_operations p n many)) (f g : Row (CanonicalPolynomial p n)) (later : List (Row (CanonicalPolynomial p n))) (last : Option (Row (CanonicalPolynomial p n))) → AreCofactorSteps (canonical_operations p n many) w v chain total m f g later last → AreCofactorSteps (list_operations p n) w v (down_all p n many chain) total (down_memory p n many m) (down p n many f) (down p n many g) (down_all p n many later) (option_map (down p n many) last)
+  pub down_steps : (w v : ℕ) (chain : List (Row (CanonicalPolynomial p n))) (total : ℕ) (m : TurnBefore (canonical_operations p n many)) (f g : Row (CanonicalPolynomial p n)) (later : List (Row (CanonicalPolynomial p n))) (last : Option (Row (CanonicalPolynomial p n))) → AreCofactorSteps (canonical_operations p n many) w v chain total m f g later last → AreCofactorSteps (list_operations p n) w v (down_all p n many chain) total (down_memory p n many m) (down p n many f) (down p n many g) (down_all p n many later) (option_map (down p n many) last)
   down_steps w v chain total m f g [] None steps = tt
   down_steps w v chain total m f g [] (Some z) steps = (down_step v chain (canonical_operations p n many).one f g z steps.0, ap (λ a. degree_in v a + degree_in v g.first.0) (sym (terms-first_cofactor z)) ∙ steps.1)
   down_steps w v chain total m f g (h ∷ later) last steps = (subst (λ u. IsCofactorStep (list_operations p n) v (down_all p n many chain) u (down p n many f) (down p n many g) (down p n many h)) (terms-next_divisor w v chain m f g) (down_step v chain (next_divisor (canonical_operations p n many) w v chain m f g) f g h steps.0), subst (λ q. AreCofactorSteps (list_operations p n) w v (down_all p n many chain) total (Some (q, fall (canonical_operations p n many) v f g)) (down p n many g) (down p n many h) (down_all p n many later) (option_map (down p n many) last)) (terms-next_psi p n many w v m f) (down_steps w v chain total (Some (next_psi (canonical_operations p n many) w v m f, fall (canonical_operations p n many) v f g)) g h later last steps.1))

@@ -6,8 +6,8 @@ use Rattle.polynomials.specs.Views.{degree_in}
 use Rattle.polynomials.proofs.PolynomialRing.{CanonicalPolynomial}
 use Rattle.division_rules.specs.Lists.{list_operations}
 use Rattle.division_rules.specs.PolynomialRows.{ArePolynomialRows}
-use Rattle.division_rules.specs.Rows.{Row, plain, plains}
-use Rattle.division_rules.specs.RemainderRows.{Rows, remainder_rows}
+use Rattle.division_rules.specs.Rows.{Row, plain, plains, first_entries}
+use Rattle.division_rules.specs.RemainderRows.{LaterRows, remainder_rows}
 use Rattle.division_rules.specs.Turns.{IsBase, IsTurn}
 use Rattle.division_rules.specs.Units.{unit_rows}
 use Rattle.division_rules.specs.Cofactors.{AreCofactorSteps}
@@ -18,7 +18,7 @@ use Rattle.division_rules.proofs.GeneratorRows.{row_of_first, row_of_second, gen
 use Rattle.division_rules.proofs.PolynomialSetting.{polynomial_setting}
 use Rattle.division_rules.proofs.Settings.{ViewedRing}
 use Rattle.division_rules.proofs.Up.{up_all, up_rows, terms-up_all, length-up_all}
-use Rattle.row_laws.specs.Words.{first_entries, StartRemainderRows}
+use Rattle.row_laws.specs.Words.{StartRemainderRows}
 use Rattle.row_laws.proofs.CombinationRows.{terms-zeros, down-unit_rows}
 use Rattle.row_laws.proofs.ReductionValues.{first_entries-plains}
 use Rattle.row_laws.proofs.Starts.{start_base, start_turn}
@@ -69,7 +69,7 @@ module _ (p n : ℕ) (prime : IsPrime p) where
     abbrev pub chain_units : List (Row (CanonicalPolynomial p n))
     chain_units = unit_rows (canonical_operations p n prime.many) 2 canonical_chain
 
-    abbrev pub canonical_rows : Rows (CanonicalPolynomial p n)
+    abbrev pub canonical_rows : LaterRows (CanonicalPolynomial p n)
     canonical_rows = remainder_rows (canonical_operations p n prime.many) w v chain_units second first
 
     -- are those of the lists of terms
@@ -95,5 +95,5 @@ module _ (p n : ℕ) (prime : IsPrime p) where
     pub list_steps : AreCofactorSteps (list_operations p n) w v (rows_of_chain p n chain) (degree_in v t) None (row_of_t n t chain) (row_of_c n c chain) (rows_with_cofactors p n w v c t chain).later (rows_with_cofactors p n w v c t chain).last
     list_steps = subst (λ rows. AreCofactorSteps (list_operations p n) w v (rows_of_chain p n chain) (degree_in v t) None (row_of_t n t chain) (row_of_c n c chain) rows.later rows.last) down-canonical_rows (subst (λ f. AreCofactorSteps (list_operations p n) w v (rows_of_chain p n chain) (degree_in v t) None f (row_of_c n c chain) down_of.later down_of.last) down-second (subst (λ g. AreCofactorSteps (list_operations p n) w v (rows_of_chain p n chain) (degree_in v t) None (down p n prime.many second) g down_of.later down_of.last) down-first (subst (λ rows. AreCofactorSteps (list_operations p n) w v rows (degree_in v t) None (down p n prime.many second) (down p n prime.many first) down_of.later down_of.last) down-chain_units (down_steps p n prime.many w v chain_units (degree_in v t) None second first canonical_rows.later canonical_rows.last canonical_steps))))
       where
-        down_of : Rows Polynomial
+        down_of : LaterRows Polynomial
         down_of = down_rows p n prime.many canonical_rows

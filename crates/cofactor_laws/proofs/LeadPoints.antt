@@ -12,7 +12,7 @@ use Rattle.division_rules.specs.Chains.{AnyRow}
 use Rattle.division_rules.specs.Lists.{list_operations}
 use Rattle.division_rules.specs.Operations.{lead, initial}
 use Rattle.division_rules.specs.Rows.{Row, plain, plains, reduction}
-use Rattle.division_rules.specs.RemainderRows.{Rows, leads}
+use Rattle.division_rules.specs.RemainderRows.{LaterRows, leads}
 use Rattle.division_rules.specs.Cofactors.{first_cofactor, AreCofactorSteps}
 use Rattle.division_rules.proofs.CanonicalViews.{canonical_operations}
 use Rattle.division_rules.proofs.CofactorPoints.{cofactor_lead_zero}
@@ -73,7 +73,7 @@ module _ (p n : ℕ) (prime : IsPrime p) (r : Tables) (domain : IsFiniteDomain p
     abbrev below : List (CanonicalPolynomial p n)
     below = canonical_chain p n prime w v c t chain are start
 
-    abbrev rows : Rows (CanonicalPolynomial p n)
+    abbrev rows : LaterRows (CanonicalPolynomial p n)
     rows = canonical_rows p n prime w v c t chain are start
 
     -- the chain is zero, and its initials aren't

@@ -3,7 +3,7 @@ use Rattle.std.proofs.Common.{◌≡◌, ℕ, zero, suc, ◌<◌, List, [], ◌�
 use Rattle.std.proofs.lemmas.Option.{same_Some}
 use Rattle.polynomials.specs.Primes.{IsPrime}
 use Rattle.polynomials.specs.Polynomials.{Polynomial, IsPolynomial, ArePolynomials, one_of}
-use Rattle.polynomials.specs.Views.{degree_in, main_var, IsFreeOf}
+use Rattle.polynomials.specs.Views.{degree_in, main_var, IsFreeOf, AreFreeOf}
 use Rattle.polynomials.proofs.ExponentsBelow.{ExponentsBelow-one}
 use Rattle.polynomials.proofs.MainVariables.{degree_in_main_var, free_above_main_var}
 use Rattle.polynomials.proofs.PolynomialRing.{CanonicalPolynomial, canonical_path}
@@ -14,7 +14,7 @@ use Rattle.zero_sets.specs.Certificates.{LacksVariable, IsFreeOfMain}
 use Rattle.division_rules.specs.Chains.{EachRow, IfRow}
 use Rattle.division_rules.specs.Lists.{list_operations}
 use Rattle.division_rules.specs.PolynomialRows.{IsPolynomialRow, ArePolynomialRows}
-use Rattle.division_rules.specs.Rows.{Row, plain, plains, reduction}
+use Rattle.division_rules.specs.Rows.{Row, plain, plains, reduction, first_entries}
 use Rattle.division_rules.specs.Triangular.{HasLessDegree}
 use Rattle.division_rules.specs.Turns.{DegreesFall}
 use Rattle.division_rules.specs.Units.{unit_rows}
@@ -23,8 +23,8 @@ use Rattle.division_rules.proofs.CanonicalViews.{canonical_operations}
 use Rattle.division_rules.proofs.ListLaws.{free_above_main}
 use Rattle.division_rules.proofs.Up.{down_canonical, down_all_canonical}
 use Rattle.division_rules.proofs.RowsShape.{last_occurs}
-use Rattle.row_laws.specs.Words.{first_entries, reduction_of, AreBelow, IsReducedBy, StartRemainderRows}
-use Rattle.row_laws.specs.Degrees.{AreFreeOf, IsRowFreeOf}
+use Rattle.row_laws.specs.Words.{reduction_of, AreBelow, IsReducedBy, StartRemainderRows}
+use Rattle.row_laws.specs.Degrees.{IsRowFreeOf}
 use Rattle.row_laws.proofs.FallingRows.{remainder_rows_fall, remainder_rows_are_free}
 use Rattle.row_laws.proofs.Lifts.{lifted-reduction}
 use Rattle.row_laws.proofs.ReducedRows.{reduced_by_more}

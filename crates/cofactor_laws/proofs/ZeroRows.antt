@@ -6,7 +6,7 @@ use Rattle.zero_sets.specs.Domains.{value_at}
 use Rattle.zero_sets.proofs.TableRings.{Element}
 use Rattle.division_rules.specs.Chains.{IfRow}
 use Rattle.division_rules.specs.Lists.{list_operations}
-use Rattle.division_rules.specs.Rows.{Row}
+use Rattle.division_rules.specs.Rows.{Row, first_entries}
 use Rattle.division_rules.specs.Turns.{DegreesFall}
 use Rattle.division_rules.specs.Cofactors.{first_cofactor}
 use Rattle.division_rules.proofs.CanonicalViews.{canonical_operations}
@@ -14,7 +14,7 @@ use Rattle.division_rules.proofs.CombinationPoints.{first_product_zero}
 use Rattle.division_rules.proofs.PolynomialSetting.{polynomial_setting}
 use Rattle.division_rules.proofs.Settings.{Evaluation, IsZero}
 use Rattle.division_rules.proofs.Up.{up, up_all, down-up}
-use Rattle.row_laws.specs.Words.{first_entries, StartRemainderRows}
+use Rattle.row_laws.specs.Words.{StartRemainderRows}
 use Rattle.row_laws.specs.Combinations.{IsRowOver, AreRowsOver, KeepCombinations}
 use Rattle.row_laws.proofs.CombinationRows.{combinations_are_kept, up_combination}
 use Rattle.row_laws.proofs.FallingRows.{remainder_rows_fall}

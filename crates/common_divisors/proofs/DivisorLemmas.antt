@@ -12,7 +12,7 @@ use Rattle.polynomials.proofs.InverseLemmas.{inverse_of_is}
 use Rattle.polynomials.proofs.MainVariables.{constant_from_free}
 use Rattle.polynomials.proofs.MonicForms.{monic_itself, monic-scaled}
 use Rattle.polynomials.proofs.MonicLemmas.{monic_is_monic, IsPolynomial-monic, inverse_positive, scaled-monic}
-use Rattle.zero_sets.specs.Certificates.{combination}
+use Rattle.polynomials.specs.Sums.{combination}
 use Rattle.common_divisors.specs.Ideals.{Divides, DividesEach, IsInIdeal, AreInIdeal}
 use Rattle.common_divisors.specs.Divisors.{AreZero, IsMonic, IsUnivariate, IsGreatestCommonDivisor}
 use Rattle.common_divisors.proofs.IdealLemmas.{in_ideal_of_members, divides_from_ideal, in_ideal_from_divides, product_in_ideal}

@@ -7,7 +7,7 @@ use Rattle.polynomials.proofs.Canonical.{IsPolynomial-sum_of, IsPolynomial-produ
 use Rattle.polynomials.proofs.PolynomialLaws.{zero-sum_of, sum_of-zero, one_of-product_of}
 use Rattle.polynomials.proofs.PolynomialRing.{polynomial_ring}
 use Rattle.polynomials.proofs.Solver.{var, ◌:+◌, ◌:*◌, solve}
-use Rattle.zero_sets.specs.Certificates.{combination}
+use Rattle.polynomials.specs.Sums.{combination}
 use Rattle.common_divisors.specs.Ideals.{Divides, IsInIdeal, AreInIdeal, HaveOneIdeal}
 
 module _ {A : Type 0} (r : Ring A) where

@@ -9,7 +9,7 @@ use Rattle.polynomials.proofs.InitialLemmas.{IsPolynomial-initial_of, initial_of
 use Rattle.polynomials.proofs.MainVariables.{degree_in_main_var, free_without_main_var, constant_from_free}
 use Rattle.zero_sets.specs.Domains.{Tables, IsFiniteDomain, IsPoint, plus_in, value_at}
 use Rattle.zero_sets.specs.ZeroSets.{InZeroSet, InQuasiComponent}
-use Rattle.zero_sets.specs.Certificates.{combination}
+use Rattle.polynomials.specs.Sums.{combination}
 use Rattle.zero_sets.proofs.ValueLaws.{value_at-sum_of, value_at-constant_of}
 use Rattle.zero_sets.proofs.PointFacts.{product_zero_right}
 use Rattle.common_divisors.specs.Ideals.{DividesEach}

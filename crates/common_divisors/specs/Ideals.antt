@@ -1,7 +1,7 @@
 -- Divisors and ideals of polynomials in n variables modulo p.
 use Rattle.std.specs.Prelude.{◌≡◌, ℕ, List, [], ◌∷◌, length}
 use Rattle.polynomials.specs.Polynomials.{Polynomial, IsPolynomial, ArePolynomials, product_of}
-use Rattle.zero_sets.specs.Certificates.{combination}
+use Rattle.polynomials.specs.Sums.{combination}
 
 -- f is a product of g and a polynomial
 abbrev pub Divides : ℕ → ℕ → Polynomial → Polynomial → Type 0

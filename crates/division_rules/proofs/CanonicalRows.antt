@@ -2,7 +2,7 @@
 use Rattle.std.proofs.Common.{◌≡◌, ℕ, ◌<◌, List, Some, ap, ap₂, ◌∙◌, subst}
 use Rattle.polynomials.specs.Polynomials.{Polynomial, IsPolynomial, ArePolynomials}
 use Rattle.division_rules.specs.Lists.{list_operations}
-use Rattle.division_rules.specs.Operations.{power_of, sign}
+use Rattle.division_rules.specs.Operations.{power, sign}
 use Rattle.division_rules.specs.Rows.{Row, combined, elimination, sparse_remainder_by, sparse_remainder, times_row, pseudo_remainder_by, pseudo_remainder, reduction}
 use Rattle.division_rules.specs.RemainderRows.{quotients, divided, undivided, remainder_rows}
 use Rattle.division_rules.specs.PolynomialRows.{IsPolynomialRow, ArePolynomialRows, AreRemainderRows}
@@ -13,8 +13,8 @@ use Rattle.division_rules.proofs.Up.{up_all, up, up_rows, terms-up_all, down-up,
 
 module _ (p n : ℕ) (many : 1 < p) where
   -- powers
-  pub IsPolynomial-power_of : (f : Polynomial) (e : ℕ) → IsPolynomial p n f → IsPolynomial p n (power_of (list_operations p n) f e)
-  IsPolynomial-power_of f e i = subst (IsPolynomial p n) (terms-power_of p n many (f, i) e) (power_of (canonical_operations p n many) (f, i) e).1
+  pub IsPolynomial-power_of : (f : Polynomial) (e : ℕ) → IsPolynomial p n f → IsPolynomial p n (power (list_operations p n) f e)
+  IsPolynomial-power_of f e i = subst (IsPolynomial p n) (terms-power_of p n many (f, i) e) (power (canonical_operations p n many) (f, i) e).1
 
   -- signs
   pub IsPolynomial-sign : (k : ℕ) → IsPolynomial p n (sign (list_operations p n) k)

@@ -1,12 +1,12 @@
 -- The degrees and leads of the first cofactors of remainder rows.
-use Rattle.std.proofs.Common.{◌≡◌, ◌≢◌, ℕ, zero, suc, ◌+◌, ◌<◌, List, [], Option, Some, None, refl, sym, ap, subst, ◌∙◌, arith}
+use Rattle.std.proofs.Common.{◌≡◌, ◌≢◌, ℕ, zero, suc, ◌+◌, ◌<◌, List, [], Option, Some, None, refl, sym, ap, subst, ◌∙◌, arith, unwrap_or}
 use Rattle.polynomials.specs.Rings.{power_in}
 use Rattle.polynomials.proofs.RingLaws.{one-times, times-one, times_comm, times-neg, power_nonzero}
-use Rattle.division_rules.specs.Operations.{lead, power_of}
+use Rattle.division_rules.specs.Operations.{lead, power}
 use Rattle.division_rules.specs.Rows.{Row, pseudo_remainder}
 use Rattle.division_rules.specs.Chains.{EachRow}
 use Rattle.division_rules.specs.Points.{product_of_all}
-use Rattle.division_rules.specs.RemainderRows.{or_else, quotients, divided, Memory, fall, next_psi, next_beta, undivided, next_row, rows_from}
+use Rattle.division_rules.specs.RemainderRows.{quotients, divided, TurnBefore, fall, next_psi, next_beta, undivided, next_row, rows_from}
 use Rattle.division_rules.specs.Turns.{IsBase, IsTurn}
 use Rattle.division_rules.specs.Cofactors.{first_cofactor, divisor_used, next_divisor, IsCofactorStep, AreCofactorSteps}
 use Rattle.division_rules.proofs.Settings.{ViewedRing, operations}
@@ -23,10 +23,10 @@ module _ {A : Type 0} (P : ViewedRing A) where
   open P.ring use {◌⊗◌, nil, one, neg}
 
   -- the two definitions of powers agree
-  pub power_of-power_in : (a : A) (e : ℕ) → power_of (operations P) a e ≡ power_in P.ring a e
+  pub power_of-power_in : (a : A) (e : ℕ) → power (operations P) a e ≡ power_in P.ring a e
   power_of-power_in a zero = refl
   power_of-power_in a (suc zero) = sym (times-one P.ring a)
-  power_of-power_in a (suc (suc e)) = times_comm P.ring (power_of (operations P) a (suc e)) a ∙ ap (λ x. a ⊗ x) (power_of-power_in a (suc e))
+  power_of-power_in a (suc (suc e)) = times_comm P.ring (power (operations P) a (suc e)) a ∙ ap (λ x. a ⊗ x) (power_of-power_in a (suc e))
 
 module _ {A : Type 0} (P : ViewedRing A) (w v : ℕ) (chain : List (Row A)) (base : IsBase P.ring P.views P.laws v chain) (lacks : EachRow (LacksFirst P) chain) where
   open P.ring use {◌⊗◌, nil, one, neg}
@@ -47,9 +47,9 @@ module _ {A : Type 0} (P : ViewedRing A) (w v : ℕ) (chain : List (Row A)) (bas
   abbrev pub Follows : Row A → Row A → A → Row A → Type 0
   Follows f g u h = HasCofactor h × IsCofactorStep (operations P) v chain u f g h × (cofactor h ≢ nil)
 
-  module _ (m : Memory (operations P)) (f g : Row A) (turn : IsTurn P.ring P.views P.laws v chain m f g) (leads : HasLeads f g) where
+  module _ (m : TurnBefore (operations P)) (f g : Row A) (turn : IsTurn P.ring P.views P.laws v chain m f g) (leads : HasLeads f g) where
     -- the first cofactor of the pseudo-remainder
-    pseudo_remainder_top : HasTop P v (degree v (cofactor g) + fall (operations P) v f g) (neg (lead (operations P) v f.first ⊗ (power_of (operations P) (lead (operations P) v g.first) (fall (operations P) v f g) ⊗ lead (operations P) v (cofactor g)))) (pseudo_remainder (operations P) v f g)
+    pseudo_remainder_top : HasTop P v (degree v (cofactor g) + fall (operations P) v f g) (neg (lead (operations P) v f.first ⊗ (power (operations P) (lead (operations P) v g.first) (fall (operations P) v f g) ⊗ lead (operations P) v (cofactor g)))) (pseudo_remainder (operations P) v f g)
     pseudo_remainder_top = subst (λ y. HasTop P v (d + fall (operations P) v f g) (neg (lead (operations P) v f.first ⊗ (y ⊗ lead (operations P) v (cofactor g)))) (pseudo_remainder (operations P) v f g)) (sym (power_of-power_in P (lead (operations P) v g.first) (fall (operations P) v f g))) (top-pseudo_remainder P v g leads.has_after d (P.laws.degree-under v (cofactor g)) f leads.has_before turn.before (omega (arith, turn.falls)) (P.laws.under-more v d (d + fall (operations P) v f g) (cofactor f) (omega arith) leads.below))
       where
         d : ℕ
@@ -70,7 +70,7 @@ module _ {A : Type 0} (P : ViewedRing A) (w v : ℕ) (chain : List (Row A)) (bas
         t = lead (operations P) v f.first
 
         q : A
-        q = power_of (operations P) (lead (operations P) v g.first) (fall (operations P) v f g)
+        q = power (operations P) (lead (operations P) v g.first) (fall (operations P) v f g)
 
         c : A
         c = lead (operations P) v (cofactor g)
@@ -119,7 +119,7 @@ module _ {A : Type 0} (P : ViewedRing A) (w v : ℕ) (chain : List (Row A)) (bas
         s : Row A
         s = undivided (operations P) v chain f g
 
-        go : (a : Option (Row A)) → divided (operations P) w b s ≡ a → Follows f g (divisor_used (operations P) a b) (or_else a s)
+        go : (a : Option (Row A)) → divided (operations P) w b s ≡ a → Follows f g (divisor_used (operations P) a b) (unwrap_or a s)
         go None e = follows_undivided
         go (Some h) e =
             let first = first_divided (operations P) b h.cofactors s.cofactors (quotients-times P [] w b s.cofactors h.cofactors (row_of-some (P.views.quotient w s.first b) (quotients (operations P) w b s.cofactors) h e).1) has_undivided in
@@ -144,7 +144,7 @@ module _ {A : Type 0} (P : ViewedRing A) (w v : ℕ) (chain : List (Row A)) (bas
     total_stays total u h step sum = omega (arith, step.degrees, sum, turn.falls)
 
   -- so it is with all rows
-  pub are_cofactor_steps : (k total : ℕ) (m : Memory (operations P)) (f g : Row A) → IsTurn P.ring P.views P.laws v chain m f g → HasLeads f g → degree v (cofactor g) + degree v f.first ≡ total → AreCofactorSteps (operations P) w v chain total m f g (rows_from (operations P) w v chain k m f g).later (rows_from (operations P) w v chain k m f g).last
+  pub are_cofactor_steps : (k total : ℕ) (m : TurnBefore (operations P)) (f g : Row A) → IsTurn P.ring P.views P.laws v chain m f g → HasLeads f g → degree v (cofactor g) + degree v f.first ≡ total → AreCofactorSteps (operations P) w v chain total m f g (rows_from (operations P) w v chain k m f g).later (rows_from (operations P) w v chain k m f g).last
   are_cofactor_steps zero total m f g turn leads sum = tt
   are_cofactor_steps (suc k) total m f g turn leads sum = rows_by_turn P w v chain base (λ rows. AreCofactorSteps (operations P) w v chain total m f g rows.later rows.last) k m f g (λ null. (zero_step, total_stays m f g turn leads total one (undivided (operations P) v chain f g) zero_step sum)) (λ some e. (next_step, tt)) (λ some e. (next_step, are_cofactor_steps k total (Some (next_psi (operations P) w v m f, fall (operations P) v f g)) g (next_row (operations P) w v chain m f g) (next_turn P w v chain base m f g turn some) (next_leads m f g turn leads) (total_stays m f g turn leads total (next_divisor (operations P) w v chain m f g) (next_row (operations P) w v chain m f g) next_step sum)))
     where

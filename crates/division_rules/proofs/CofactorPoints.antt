@@ -1,11 +1,11 @@
 -- The lead of the zero row's first cofactor at a point.
 use Rattle.std.proofs.Common.{◌≡◌, ◌≢◌, ◌⊎◌, inl, inr, ℕ, List, [], ◌∷◌, Option, Some, None, sym, ap, ◌∙◌}
 use Rattle.polynomials.proofs.RingLaws.{times-nil}
-use Rattle.division_rules.specs.Operations.{lead, power_of}
+use Rattle.division_rules.specs.Operations.{lead, power}
 use Rattle.division_rules.specs.Rows.{Row, plain, reduction}
 use Rattle.division_rules.specs.Chains.{EachRow, AnyRow, IfRow, IsFree}
 use Rattle.division_rules.specs.Points.{product_of_all}
-use Rattle.division_rules.specs.RemainderRows.{Memory, fall, next_psi}
+use Rattle.division_rules.specs.RemainderRows.{TurnBefore, fall, next_psi}
 use Rattle.division_rules.specs.Cofactors.{first_cofactor, next_divisor, IsCofactorStep, AreCofactorSteps}
 use Rattle.division_rules.proofs.Settings.{ViewedRing, operations, Evaluation, IsZero, NotZero, AllZero, InitialsNotZero}
 use Rattle.division_rules.proofs.Points.{initials_not_zero}
@@ -32,7 +32,7 @@ module _ {A B : Type 0} (P : ViewedRing A) (E : Evaluation P B) (v : ℕ) where
   cofactor_lead_step chain initials u f g h step hf hg hc z = right (ap E.val (sym step.leads) ∙ E.is_value.val-times u (lead (operations P) v (cofactor h)) ∙ ap (λ x. E.values.◌⊗◌ (E.val u) x) z ∙ times-nil E.values (E.val u))
     where
       l : A
-      l = power_of (operations P) (lead (operations P) v g.first) (fall (operations P) v f g)
+      l = power (operations P) (lead (operations P) v g.first) (fall (operations P) v f g)
 
       c : A
       c = lead (operations P) v (cofactor g)
@@ -47,7 +47,7 @@ module _ {A B : Type 0} (P : ViewedRing A) (E : Evaluation P B) (v : ℕ) where
       right = not_zero_negative P E (js ⊗ (t ⊗ (l ⊗ c))) (not_zero_product P E js (t ⊗ (l ⊗ c)) (initials_not_zero P E chain initials step.factors step.initials) (not_zero_product P E t (l ⊗ c) hf (not_zero_product P E l c (not_zero_power P E (lead (operations P) v g.first) (fall (operations P) v f g) hg) hc)))
 
   -- so where no lead of a row is zero, that of the zero row's first cofactor is not
-  pub cofactor_lead_not_zero : (w : ℕ) (chain : List (Row A)) → InitialsNotZero P E chain → (total : ℕ) (m : Memory (operations P)) (f g : Row A) (later : List (Row A)) (last : Option (Row A)) → AreCofactorSteps (operations P) w v chain total m f g later last → LeadOfRowNotZero f → LeadOfRowNotZero g → EachRow LeadOfRowNotZero later → CofactorLeadNotZero g → IfRow CofactorLeadNotZero last
+  pub cofactor_lead_not_zero : (w : ℕ) (chain : List (Row A)) → InitialsNotZero P E chain → (total : ℕ) (m : TurnBefore (operations P)) (f g : Row A) (later : List (Row A)) (last : Option (Row A)) → AreCofactorSteps (operations P) w v chain total m f g later last → LeadOfRowNotZero f → LeadOfRowNotZero g → EachRow LeadOfRowNotZero later → CofactorLeadNotZero g → IfRow CofactorLeadNotZero last
   cofactor_lead_not_zero w chain initials total m f g [] None steps hf hg each hc = tt
   cofactor_lead_not_zero w chain initials total m f g [] (Some z) steps hf hg each hc = cofactor_lead_step chain initials one f g z steps.0 hf hg hc
   cofactor_lead_not_zero w chain initials total m f g (h ∷ later) last steps hf hg each hc = cofactor_lead_not_zero w chain initials total (Some (next_psi (operations P) w v m f, fall (operations P) v f g)) g h later last steps.1 hg each.0 each.1 (cofactor_lead_step chain initials (next_divisor (operations P) w v chain m f g) f g h steps.0 hf hg hc)
@@ -63,7 +63,7 @@ module _ {A B : Type 0} (P : ViewedRing A) (E : Evaluation P B) (v : ℕ) where
       go (inr not) (inr each) = inr (not, each)
 
   -- so where the lead of the zero row's first cofactor is zero, the lead of one of the rows is
-  pub cofactor_lead_zero : ((x : B) → (x ≡ E.values.nil) ⊎ (x ≢ E.values.nil)) → (w : ℕ) (chain : List (Row A)) → InitialsNotZero P E chain → (total : ℕ) (m : Memory (operations P)) (f g : Row A) (later : List (Row A)) (z : Row A) → AreCofactorSteps (operations P) w v chain total m f g later (Some z) → LeadOfRowNotZero f → CofactorLeadNotZero g → IsZero P E (lead (operations P) v (cofactor z)) → AnyRow (λ h. IsZero P E (lead (operations P) v h.first)) (g ∷ later)
+  pub cofactor_lead_zero : ((x : B) → (x ≡ E.values.nil) ⊎ (x ≢ E.values.nil)) → (w : ℕ) (chain : List (Row A)) → InitialsNotZero P E chain → (total : ℕ) (m : TurnBefore (operations P)) (f g : Row A) (later : List (Row A)) (z : Row A) → AreCofactorSteps (operations P) w v chain total m f g later (Some z) → LeadOfRowNotZero f → CofactorLeadNotZero g → IsZero P E (lead (operations P) v (cofactor z)) → AnyRow (λ h. IsZero P E (lead (operations P) v h.first)) (g ∷ later)
   cofactor_lead_zero decide w chain initials total m f g later z steps hf hc null = go (some_or_each decide (g ∷ later))
     where
       go : AnyRow (λ h. IsZero P E (lead (operations P) v h.first)) (g ∷ later) ⊎ EachRow LeadOfRowNotZero (g ∷ later) → AnyRow (λ h. IsZero P E (lead (operations P) v h.first)) (g ∷ later)
@@ -71,5 +71,5 @@ module _ {A B : Type 0} (P : ViewedRing A) (E : Evaluation P B) (v : ℕ) where
       go (inr each) = absurd (cofactor_lead_not_zero w chain initials total m f g later (Some z) steps hf each.0 each.1 hc null)
 
   -- and so where that cofactor reduces to 0
-  pub lead_zero : ((x : B) → (x ≡ E.values.nil) ⊎ (x ≢ E.values.nil)) → (w : ℕ) (chain : List (Row A)) → IsFree P.ring P.views P.laws v chain → AllZero P E chain → InitialsNotZero P E chain → (total : ℕ) (m : Memory (operations P)) (f g : Row A) (later : List (Row A)) (z : Row A) → AreCofactorSteps (operations P) w v chain total m f g later (Some z) → LeadOfRowNotZero f → CofactorLeadNotZero g → (reduction (operations P) chain (plain (cofactor z))).first ≡ nil → AnyRow (λ h. IsZero P E (lead (operations P) v h.first)) (g ∷ later)
+  pub lead_zero : ((x : B) → (x ≡ E.values.nil) ⊎ (x ≢ E.values.nil)) → (w : ℕ) (chain : List (Row A)) → IsFree P.ring P.views P.laws v chain → AllZero P E chain → InitialsNotZero P E chain → (total : ℕ) (m : TurnBefore (operations P)) (f g : Row A) (later : List (Row A)) (z : Row A) → AreCofactorSteps (operations P) w v chain total m f g later (Some z) → LeadOfRowNotZero f → CofactorLeadNotZero g → (reduction (operations P) chain (plain (cofactor z))).first ≡ nil → AnyRow (λ h. IsZero P E (lead (operations P) v h.first)) (g ∷ later)
   lead_zero decide w chain free zeros initials total m f g later z steps hf hc null = cofactor_lead_zero decide w chain initials total m f g later z steps hf hc (coefficient_zero P E v (P.views.degree v (cofactor z)) chain free zeros initials (plain (cofactor z)) null)

@@ -2,7 +2,7 @@
 use Rattle.std.proofs.Common.{◌≡◌, ℕ, zero, suc, ◌<◌, Bool, true, false, List, [], ◌∷◌, map, refl, ap, ◌∙◌}
 use Rattle.polynomials.specs.Polynomials.{Polynomial, product_of, negative_of, sum_of}
 use Rattle.polynomials.proofs.PolynomialRing.{CanonicalPolynomial}
-use Rattle.division_rules.specs.Operations.{lead, shifted_lead, power_of, sign}
+use Rattle.division_rules.specs.Operations.{lead, shifted_lead, power, sign}
 use Rattle.division_rules.specs.Rows.{Row, plain, plains, combined, cross, cross_all, cross_rows, elimination, is_reduced_by, sparse_remainder_by, sparse_remainder, turns, times_row, pseudo_remainder_by, pseudo_remainder, reduction}
 use Rattle.division_rules.specs.Lists.{list_operations}
 use Rattle.division_rules.proofs.CanonicalViews.{canonical_operations}
@@ -38,7 +38,7 @@ module _ (p n : ℕ) (many : 1 < p) where
   down-plains (f ∷ fs) = ap (λ x. plain f.0 ∷ x) (down-plains fs)
 
   -- powers
-  pub terms-power_of : (f : CanonicalPolynomial p n) (e : ℕ) → (power_of (canonical_operations p n many) f e).0 ≡ power_of (list_operations p n) f.0 e
+  pub terms-power_of : (f : CanonicalPolynomial p n) (e : ℕ) → (power (canonical_operations p n many) f e).0 ≡ power (list_operations p n) f.0 e
   terms-power_of f zero = refl
   terms-power_of f (suc zero) = refl
   terms-power_of f (suc (suc e)) = ap (λ x. product_of p x f.0) (terms-power_of f (suc e))

@@ -1,7 +1,7 @@
 -- The definitions, tried by computation on polynomials in a and x modulo 5.
 use Rattle.std.proofs.Common.{◌≡◌, ℕ, [], ◌∷◌, Some, None, refl}
 use Rattle.polynomials.specs.Polynomials.{Polynomial, term}
-use Rattle.division_rules.specs.Operations.{Operations, power_of}
+use Rattle.division_rules.specs.Operations.{Operations, power}
 use Rattle.division_rules.specs.Lists.{list_operations}
 use Rattle.division_rules.specs.Quotients.{quotient_within, without_factors}
 use Rattle.division_rules.specs.Rows.{Row, plain, elimination, pseudo_remainder, reduction}
@@ -82,7 +82,7 @@ reduced = refl
 reduced_with_cofactors : reduction o (record { first = x_plus 4; cofactors = [] ∷ one ∷ [] } ∷ []) (record { first = x; cofactors = one ∷ [] ∷ [] }) ≡ record { first = one; cofactors = one ∷ (term (0 ∷ 0 ∷ []) 4 ∷ []) ∷ [] }
 reduced_with_cofactors = refl
 
-square : power_of o (x_plus 1) 2 ≡ term (0 ∷ 2 ∷ []) 1 ∷ term (0 ∷ 1 ∷ []) 2 ∷ term (0 ∷ 0 ∷ []) 1 ∷ []
+square : power o (x_plus 1) 2 ≡ term (0 ∷ 2 ∷ []) 1 ∷ term (0 ∷ 1 ∷ []) 2 ∷ term (0 ∷ 0 ∷ []) 1 ∷ []
 square = refl
 
 square_too_wide : power_of_within o 3 (x_plus 1) 2 ≡ None

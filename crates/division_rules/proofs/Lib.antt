@@ -8,6 +8,7 @@ pub mod WithinLimits
 pub mod Combinations
 pub mod Identity
 pub mod Points
+pub mod Multiples
 pub mod CoefficientPoints
 pub mod FreeNonzero
 pub mod Turns

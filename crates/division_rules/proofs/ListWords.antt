@@ -5,7 +5,7 @@ use Rattle.polynomials.specs.Views.{lead_in, main_var, lead_in_main, initial_of}
 use Rattle.polynomials.specs.Fits.{product_within, power_of as list_power, product_so_far, power_within}
 use Rattle.polynomials.proofs.Degrees.{lead_in_itself}
 use Rattle.polynomials.proofs.MainVariables.{free_without_main_var}
-use Rattle.division_rules.specs.Operations.{lead, initial, power_of}
+use Rattle.division_rules.specs.Operations.{lead, initial, power}
 use Rattle.division_rules.specs.Lists.{variable_or_zero, list_operations}
 use Rattle.division_rules.specs.Rows.{cross}
 use Rattle.division_rules.specs.Within.{and_then, times_within, power_of_within}
@@ -28,7 +28,7 @@ module _ (p n : ℕ) where
   list_cross l m f g = refl
 
   -- powers
-  pub list_power_of : (f : Polynomial) (e : ℕ) → power_of (list_operations p n) f e ≡ list_power p n f e
+  pub list_power_of : (f : Polynomial) (e : ℕ) → power (list_operations p n) f e ≡ list_power p n f e
   list_power_of f zero = refl
   list_power_of f (suc zero) = refl
   list_power_of f (suc (suc e)) = ap (λ x. product_of p x f) (list_power_of f (suc e))

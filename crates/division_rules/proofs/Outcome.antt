@@ -4,7 +4,7 @@ use Rattle.polynomials.proofs.RingLaws.{times-one}
 use Rattle.division_rules.specs.Operations.{lead}
 use Rattle.division_rules.specs.Rows.{Row}
 use Rattle.division_rules.specs.Chains.{EachRow, IsFree}
-use Rattle.division_rules.specs.RemainderRows.{Rows, Memory, fall, next_psi, undivided, next_row, rows_from, remainder_rows}
+use Rattle.division_rules.specs.RemainderRows.{LaterRows, TurnBefore, fall, next_psi, undivided, next_row, rows_from, remainder_rows}
 use Rattle.division_rules.specs.Turns.{IsBase, IsTurn, last_row}
 use Rattle.division_rules.proofs.Settings.{ViewedRing, operations, Evaluation, IsZero, AllZero}
 use Rattle.division_rules.proofs.Bounds.{under_degree}
@@ -45,11 +45,11 @@ module _ {A B : Type 0} (P : ViewedRing A) (E : Evaluation P B) (w v : ℕ) (cha
     pub lead_not_zero : LeadOfRowNotZero P E v h
 
   -- the rows after g end with a zero row, and the last row before it is a good one
-  abbrev pub EndsWell : Row A → Rows A → Type 0
+  abbrev pub EndsWell : Row A → LaterRows A → Type 0
   EndsWell g rows = (z : Row A) × (rows.last ≡ Some z) × IsGoodLast (last_row g rows.later)
 
   -- so the rows end where no lead is zero
-  pub rows_end_well : (k : ℕ) (m : Memory (operations P)) (f g : Row A) → degree v g.first < k → 1 ≤ degree v g.first → IsTurn P.ring P.views P.laws v chain m f g → AreZero P E w v chain base zeros m f g → HasNoGreater f → HasNoGreater g → LeadOfRowNotZero P E v g → EachRow (LeadOfRowNotZero P E v) (rows_from (operations P) w v chain k m f g).later → EndsWell g (rows_from (operations P) w v chain k m f g)
+  pub rows_end_well : (k : ℕ) (m : TurnBefore (operations P)) (f g : Row A) → degree v g.first < k → 1 ≤ degree v g.first → IsTurn P.ring P.views P.laws v chain m f g → AreZero P E w v chain base zeros m f g → HasNoGreater f → HasNoGreater g → LeadOfRowNotZero P E v g → EachRow (LeadOfRowNotZero P E v) (rows_from (operations P) w v chain k m f g).later → EndsWell g (rows_from (operations P) w v chain k m f g)
   rows_end_well zero m f g enough high turn are_zero hf hg lead_g = absurd (omega (arith, enough))
   rows_end_well (suc k) m f g enough high turn are_zero hf hg lead_g = rows_by_turn P w v chain base (λ rows. EachRow (LeadOfRowNotZero P E v) rows.later → EndsWell g rows) k m f g (λ null each. (undivided (operations P) v chain f g, refl, record { not_nil = turn.after; is_zero = are_zero.1; has_variable = high; no_greater = hg; lead_not_zero = lead_g })) (λ some e each. absurd (each.0 (ap E.val (lead-degree_zero P v next.first e) ∙ next_zero))) (λ some e each.
       let after = next_turn P w v chain base m f g turn some in

@@ -3,7 +3,7 @@ use Rattle.std.proofs.Common.{◌≡◌, ◌≢◌, ℕ, ◌-◌, List, [], ◌�
 use Rattle.division_rules.specs.Operations.{lead, shifted_lead}
 use Rattle.division_rules.specs.Rows.{Row, cross_all, elimination, turns, times_row, pseudo_remainder, reduction}
 use Rattle.division_rules.specs.Chains.{EachRow, IfRow, IsFree}
-use Rattle.division_rules.specs.RemainderRows.{quotients, divided, Memory, next_beta, undivided, next_row, rows_from}
+use Rattle.division_rules.specs.RemainderRows.{quotients, divided, TurnBefore, next_beta, undivided, next_row, rows_from}
 use Rattle.division_rules.specs.Turns.{IsBase, IsTurn}
 use Rattle.division_rules.proofs.Settings.{ViewedRing, operations}
 use Rattle.division_rules.proofs.Bounds.{under-scale, under-cross, under-factor, under-shift_other}
@@ -78,11 +78,11 @@ module _ {A : Type 0} (P : ViewedRing A) (w v : ℕ) (chain : List (Row A)) (bas
   open P.laws use {Under}
 
   -- the next row has no x where the two before it and the chain have none
-  pub next_row-free : IsFree P.ring P.views P.laws x chain → (m : Memory (operations P)) (f g : Row A) → IsTurn P.ring P.views P.laws v chain m f g → Under x 1 f.first → Under x 1 g.first → Under x 1 (next_row (operations P) w v chain m f g).first
+  pub next_row-free : IsFree P.ring P.views P.laws x chain → (m : TurnBefore (operations P)) (f g : Row A) → IsTurn P.ring P.views P.laws v chain m f g → Under x 1 f.first → Under x 1 g.first → Under x 1 (next_row (operations P) w v chain m f g).first
   next_row-free free m f g turn hf hg = next_row-under P w v chain base m f g turn x 1 (reduction-other P x 1 chain apart free (pseudo_remainder (operations P) v f g) (pseudo_remainder-other P x 1 v f g other hg hf))
 
   -- and no entry of a remainder row has x where no entry of the first two and of the chain has
-  pub rows_free : EachRow (AllFree P x) chain → (k : ℕ) (m : Memory (operations P)) (f g : Row A) → IsTurn P.ring P.views P.laws v chain m f g → AllFree P x f → AllFree P x g → EachRow (AllFree P x) (rows_from (operations P) w v chain k m f g).later × IfRow (AllFree P x) (rows_from (operations P) w v chain k m f g).last
+  pub rows_free : EachRow (AllFree P x) chain → (k : ℕ) (m : TurnBefore (operations P)) (f g : Row A) → IsTurn P.ring P.views P.laws v chain m f g → AllFree P x f → AllFree P x g → EachRow (AllFree P x) (rows_from (operations P) w v chain k m f g).later × IfRow (AllFree P x) (rows_from (operations P) w v chain k m f g).last
   rows_free free k m f g turn hf hg = rows_each P w v chain base (AllFree P x) (AllFree P x) (λ n y z. AllFree P x y × AllFree P x z) (λ n y z t i null. before y z i) (λ n y z t i some.
       let next : AllFree P x (next_row (operations P) w v chain n y z) = next_row_is P w v chain base n y z t (AllFree P x) (λ h e there. free-divided P x w (next_beta (operations P) w v n y z) (undivided (operations P) v chain y z) h (next_beta_free_nonzero P w v chain base n y z t).0 there (before y z i)) (before y z i) in
       (next, (i.1, next))) k m f g turn (hf, hg)

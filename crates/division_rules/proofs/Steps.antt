@@ -4,7 +4,7 @@ use Rattle.std.proofs.lemmas.Bool.{ltb-true, ltb-false}
 use Rattle.polynomials.proofs.RingLaws.{times_comm}
 use Rattle.division_rules.specs.Operations.{lead, shifted_lead}
 use Rattle.division_rules.specs.Rows.{Row, elimination, is_reduced_by, sparse_remainder_by, sparse_remainder, turns, times_row, pseudo_remainder_by, pseudo_remainder, reduction}
-use Rattle.division_rules.specs.Chains.{EachRow, IsChain, IsBelow, IsReducedBy, IsReduced, IsFree}
+use Rattle.division_rules.specs.Chains.{EachRow, IsChain, IsBelow, IsLessInMain, IsReduced, IsFree}
 use Rattle.division_rules.proofs.Settings.{ViewedRing, operations}
 use Rattle.division_rules.proofs.Bounds.{degree_below, under-scale, under-cross, under-shift_other, eliminated-under}
 
@@ -119,10 +119,10 @@ module _ {A : Type 0} (P : ViewedRing A) where
   -- the reduction by a chain is reduced by it
   pub reduction-reduced : (chain : List (Row A)) → IsChain P.ring P.views P.laws chain → (f : Row A) → IsReduced P.ring P.views P.laws chain (reduction (operations P) chain f).first
   reduction-reduced [] c f = tt
-  reduction-reduced (t ∷ chain) c f = (sparse_remainder-under (main t.first) (reduction (operations P) chain f) t, EachRow-zip (IsBelow P.ring P.views P.laws t) (IsReducedBy P.ring P.views P.laws (reduction (operations P) chain f).first) (IsReducedBy P.ring P.views P.laws (reduction (operations P) (t ∷ chain) f).first) chain kept c.1 (reduction-reduced chain c.2 f))
+  reduction-reduced (t ∷ chain) c f = (sparse_remainder-under (main t.first) (reduction (operations P) chain f) t, EachRow-zip (IsBelow P.ring P.views P.laws t) (IsLessInMain P.ring P.views P.laws (reduction (operations P) chain f).first) (IsLessInMain P.ring P.views P.laws (reduction (operations P) (t ∷ chain) f).first) chain kept c.1 (reduction-reduced chain c.2 f))
     where
-      kept : (u : Row A) → IsBelow P.ring P.views P.laws t u → IsReducedBy P.ring P.views P.laws (reduction (operations P) chain f).first u → IsReducedBy P.ring P.views P.laws (reduction (operations P) (t ∷ chain) f).first u
-      kept u below h = sparse_remainder_by-keeps (λ x. IsReducedBy P.ring P.views P.laws x.first u) (main t.first) t (λ x e i. elimination-other (main u.first) (degree (main u.first) u.first) (main t.first) x t (λ same. distinct same) below.1 i) (turns (operations P) (main t.first) (reduction (operations P) chain f).first t.first) (reduction (operations P) chain f) h
+      kept : (u : Row A) → IsBelow P.ring P.views P.laws t u → IsLessInMain P.ring P.views P.laws (reduction (operations P) chain f).first u → IsLessInMain P.ring P.views P.laws (reduction (operations P) (t ∷ chain) f).first u
+      kept u below h = sparse_remainder_by-keeps (λ x. IsLessInMain P.ring P.views P.laws x.first u) (main t.first) t (λ x e i. elimination-other (main u.first) (degree (main u.first) u.first) (main t.first) x t (λ same. distinct same) below.1 i) (turns (operations P) (main t.first) (reduction (operations P) chain f).first t.first) (reduction (operations P) chain f) h
         where
           distinct : main u.first ≡ main t.first → ⊥
           distinct same = omega (arith, same, below.0)

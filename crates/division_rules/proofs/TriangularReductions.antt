@@ -6,17 +6,18 @@ use Rattle.polynomials.specs.Views.{degree_in, main_var}
 use Rattle.polynomials.proofs.PolynomialRing.{CanonicalPolynomial}
 use Rattle.polynomials.proofs.MainVariables.{degree_in_main_var, free_above_main_var}
 use Rattle.polynomials.proofs.ExponentsBelow.{ExponentsBelow, ExponentsBelow-one, degree_in-less}
-use Rattle.division_rules.specs.Rows.{Row, reduction}
+use Rattle.division_rules.specs.Rows.{Row, reduction, first_entries}
 use Rattle.division_rules.specs.Lists.{list_operations, variable_or_zero}
 use Rattle.division_rules.specs.Chains.{EachRow, IsBelow, IsChain, IsReduced}
 use Rattle.division_rules.specs.PolynomialRows.{ArePolynomialRows}
-use Rattle.division_rules.specs.Triangular.{AreTriangularFrom, AreTriangular, HasLessDegree}
+use Rattle.division_rules.specs.Triangular.{AreTriangular, HasLessDegree}
 use Rattle.division_rules.specs.Statements.{ReductionIsReduced}
 use Rattle.division_rules.proofs.Settings.{ViewedRing}
 use Rattle.division_rules.proofs.Steps.{reduction-reduced}
 use Rattle.division_rules.proofs.PolynomialSetting.{polynomial_setting}
 use Rattle.division_rules.proofs.CanonicalViews.{canonical_operations}
 use Rattle.division_rules.proofs.Down.{down, down_all, down-reduction}
+use Rattle.polynomials.specs.Triangular.{IsTriangularFrom}
 use Rattle.division_rules.proofs.Up.{up, up_rows, down-up, down-up_rows}
 
 module _ (p n : ℕ) (prime : IsPrime p) where
@@ -24,7 +25,7 @@ module _ (p n : ℕ) (prime : IsPrime p) where
   P = polynomial_setting p n prime
 
   -- a polynomial lies below each with a greater main variable
-  below_later : (t : Row (CanonicalPolynomial p n)) (u v : ℕ) (chain : List (Row (CanonicalPolynomial p n))) → main_var t.first.0 ≡ Some u → u < v → AreTriangularFrom v (down_all p n prime.many chain) → EachRow (IsBelow P.ring P.views P.laws t) chain
+  below_later : (t : Row (CanonicalPolynomial p n)) (u v : ℕ) (chain : List (Row (CanonicalPolynomial p n))) → main_var t.first.0 ≡ Some u → u < v → IsTriangularFrom v (first_entries (down_all p n prime.many chain)) → EachRow (IsBelow P.ring P.views P.laws t) chain
   below_later t u v [] e less are = tt
   below_later t u v (x ∷ chain) e less (m, main, up_to, later) = ((smaller, free), below_later t u (suc m) chain e (omega arith) later)
     where
@@ -41,7 +42,7 @@ module _ (p n : ℕ) (prime : IsPrime p) where
       free = subst (λ y. ExponentsBelow y 1 t.first.0) (sym main_x) ((ExponentsBelow-one m t.first.0).1 (free_above_main_var u m t.first.0 e (omega arith)))
 
   -- a triangular set is a chain
-  pub chain_from_triangular : (v : ℕ) (chain : List (Row (CanonicalPolynomial p n))) → AreTriangularFrom v (down_all p n prime.many chain) → IsChain P.ring P.views P.laws chain
+  pub chain_from_triangular : (v : ℕ) (chain : List (Row (CanonicalPolynomial p n))) → IsTriangularFrom v (first_entries (down_all p n prime.many chain)) → IsChain P.ring P.views P.laws chain
   chain_from_triangular v [] are = tt
   chain_from_triangular v (t ∷ chain) (u, main, up_to, later) = (subst (λ y. 1 ≤ degree_in y t.first.0) (sym (ap variable_or_zero main)) (degree_in_main_var u t.first.0 main), below_later t u (suc u) chain main (omega arith) later, chain_from_triangular (suc u) chain later)
 

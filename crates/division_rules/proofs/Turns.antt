@@ -2,8 +2,8 @@
 use Rattle.std.proofs.Common.{◌≡◌, ◌≢◌, ℕ, List, Some, subst, sym}
 use Rattle.division_rules.specs.Operations.{lead}
 use Rattle.division_rules.specs.Rows.{Row, pseudo_remainder}
-use Rattle.division_rules.specs.Chains.{IsReducedBy, IsReduced}
-use Rattle.division_rules.specs.RemainderRows.{quotients, divided, Memory, fall, next_psi, next_beta, undivided, next_row}
+use Rattle.division_rules.specs.Chains.{IsLessInMain, IsReduced}
+use Rattle.division_rules.specs.RemainderRows.{quotients, divided, TurnBefore, fall, next_psi, next_beta, undivided, next_row}
 use Rattle.division_rules.specs.Turns.{IsBase, IsTurn}
 use Rattle.division_rules.proofs.Settings.{ViewedRing, operations}
 use Rattle.division_rules.proofs.Bounds.{degree_below, under-factor}
@@ -16,7 +16,7 @@ module _ {A : Type 0} (P : ViewedRing A) (w v : ℕ) (chain : List (Row A)) (bas
   open P.views use {degree, main}
   open P.laws use {Under}
 
-  module _ (m : Memory (operations P)) (f g : Row A) (turn : IsTurn P.ring P.views P.laws v chain m f g) where
+  module _ (m : TurnBefore (operations P)) (f g : Row A) (turn : IsTurn P.ring P.views P.laws v chain m f g) where
     -- psi and beta of the turn are not 0 and have no v
     pub next_psi_free_nonzero : IsFreeNonzero P v (next_psi (operations P) w v m f)
     next_psi_free_nonzero = psi_free_nonzero P w v m (lead (operations P) v f.first) turn.memory (lead_free_nonzero P v f.first turn.before)
@@ -57,6 +57,6 @@ module _ {A : Type 0} (P : ViewedRing A) (w v : ℕ) (chain : List (Row A)) (bas
       before = turn.after;
       after = next_row_not_nil some;
       falls = degree_below P v (degree v g.first) (next_row (operations P) w v chain m f g).first (next_row-under v (degree v g.first) undivided-under) (next_row_not_nil some);
-      reduced = EachRow-map (IsReducedBy P.ring P.views P.laws (undivided (operations P) v chain f g).first) (IsReducedBy P.ring P.views P.laws (next_row (operations P) w v chain m f g).first) chain (λ t h. next_row-under (main t.first) (degree (main t.first) t.first) h) undivided-reduced;
+      reduced = EachRow-map (IsLessInMain P.ring P.views P.laws (undivided (operations P) v chain f g).first) (IsLessInMain P.ring P.views P.laws (next_row (operations P) w v chain m f g).first) chain (λ t h. next_row-under (main t.first) (degree (main t.first) t.first) h) undivided-reduced;
       memory = next_psi_free_nonzero;
     }

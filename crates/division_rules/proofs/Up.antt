@@ -4,7 +4,7 @@ use Rattle.std.proofs.lemmas.Option.{same_Some}
 use Rattle.polynomials.specs.Polynomials.{Polynomial, IsPolynomial, ArePolynomials}
 use Rattle.polynomials.proofs.PolynomialRing.{CanonicalPolynomial}
 use Rattle.division_rules.specs.Rows.{Row, plains}
-use Rattle.division_rules.specs.RemainderRows.{Rows}
+use Rattle.division_rules.specs.RemainderRows.{LaterRows}
 use Rattle.division_rules.specs.Chains.{IfRow}
 use Rattle.division_rules.specs.PolynomialRows.{IsPolynomialRow, ArePolynomialRows, AreRemainderRows}
 use Rattle.division_rules.proofs.Down.{terms, terms_all, down, down_all}
@@ -64,7 +64,7 @@ module _ (p n : ℕ) (many : 1 < p) where
   down_all_canonical (f ∷ fs) = (down_canonical f, down_all_canonical fs)
 
   -- remainder rows of canonical polynomials are canonical
-  pub down_rows_canonical : (rows : Rows (CanonicalPolynomial p n)) → AreRemainderRows p n (down_rows p n many rows)
+  pub down_rows_canonical : (rows : LaterRows (CanonicalPolynomial p n)) → AreRemainderRows p n (down_rows p n many rows)
   down_rows_canonical rows = (down_all_canonical rows.later, last rows.last)
     where
       last : (z : Option (Row (CanonicalPolynomial p n))) → IfRow (IsPolynomialRow p n) (option_map (down p n many) z)
@@ -87,6 +87,6 @@ module _ (p n : ℕ) (many : 1 < p) where
   if_row_canonical (Some g) f e = subst (IsPolynomialRow p n) (same_Some (down p n many g) f e) (down_canonical g)
 
   -- remainder rows
-  pub if_rows_canonical : (x : Option (Rows (CanonicalPolynomial p n))) (rows : Rows Polynomial) → option_map (down_rows p n many) x ≡ Some rows → AreRemainderRows p n rows
+  pub if_rows_canonical : (x : Option (LaterRows (CanonicalPolynomial p n))) (rows : LaterRows Polynomial) → option_map (down_rows p n many) x ≡ Some rows → AreRemainderRows p n rows
   if_rows_canonical None rows e = cc
   if_rows_canonical (Some g) rows e = subst (AreRemainderRows p n) (same_Some (down_rows p n many g) rows e) (down_rows_canonical g)

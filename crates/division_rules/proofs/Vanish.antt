@@ -1,9 +1,9 @@
 -- Remainder rows are zero where the first two and the chain are, as far as the leads are not.
 use Rattle.std.proofs.Common.{◌≡◌, ◌⊎◌, inl, inr, ℕ, zero, suc, ◌-◌, List, Some, None, sym, ap, ◌∙◌}
 use Rattle.polynomials.proofs.RingLaws.{neg-nil, neg-neg, nil-times}
-use Rattle.division_rules.specs.Operations.{lead, power_of, sign}
+use Rattle.division_rules.specs.Operations.{lead, power, sign}
 use Rattle.division_rules.specs.Rows.{Row, pseudo_remainder}
-use Rattle.division_rules.specs.RemainderRows.{Memory, psi, beta, fall, next_psi, next_beta, undivided, next_row, rows_from, remainder_rows}
+use Rattle.division_rules.specs.RemainderRows.{TurnBefore, psi, beta, fall, next_psi, next_beta, undivided, next_row, rows_from, remainder_rows}
 use Rattle.division_rules.specs.Turns.{IsBase, IsTurn}
 use Rattle.division_rules.specs.Points.{Vanish}
 use Rattle.division_rules.proofs.Settings.{ViewedRing, operations, Evaluation, IsZero, NotZero, AllZero}
@@ -29,10 +29,10 @@ module _ {A B : Type 0} (P : ViewedRing A) (E : Evaluation P B) where
   not_zero_one z = E.one_not_nil (sym E.is_value.val-one ∙ z)
 
   -- powers
-  pub not_zero_power : (a : A) (e : ℕ) → NotZero P E a → NotZero P E (power_of (operations P) a e)
+  pub not_zero_power : (a : A) (e : ℕ) → NotZero P E a → NotZero P E (power (operations P) a e)
   not_zero_power a zero h = not_zero_one
   not_zero_power a (suc zero) h = h
-  not_zero_power a (suc (suc e)) h = not_zero_product (power_of (operations P) a (suc e)) a (not_zero_power a (suc e) h) h
+  not_zero_power a (suc (suc e)) h = not_zero_product (power (operations P) a (suc e)) a (not_zero_power a (suc e) h) h
 
   -- 1 and -1
   pub not_zero_sign : (k : ℕ) → NotZero P E (sign (operations P) k)
@@ -44,36 +44,36 @@ module _ {A B : Type 0} (P : ViewedRing A) (E : Evaluation P B) where
   not_zero_factor q b a e h z = h (ap val (sym e) ∙ E.is_value.val-times q b ∙ ap (λ x. E.values.◌⊗◌ x (val b)) z ∙ nil-times E.values (val b))
 
   -- the lead of the first of two rows is not zero, but in the first turn, which needs no lead
-  abbrev pub LeadNotZero : ℕ → Memory (operations P) → A → Type 0
+  abbrev pub LeadNotZero : ℕ → TurnBefore (operations P) → A → Type 0
   LeadNotZero v None f = Unit {0}
   LeadNotZero v (Some m) f = NotZero P E (lead (operations P) v f)
 
   -- then psi and beta are not zero
-  pub psi_not_zero : (w v : ℕ) (m : Memory (operations P)) (f : A) → LeadNotZero v m f → NotZero P E (psi (operations P) w m (lead (operations P) v f))
+  pub psi_not_zero : (w v : ℕ) (m : TurnBefore (operations P)) (f : A) → LeadNotZero v m f → NotZero P E (psi (operations P) w m (lead (operations P) v f))
   psi_not_zero w v None f h = not_zero_negative one not_zero_one
   psi_not_zero w v (Some m) f h = in_option (NotZero P E) (P.views.quotient w top low) top (λ q e. not_zero_factor q low top (P.laws.quotient-sound w top low q e) top_not) top_not
     where
       top : A
-      top = power_of (operations P) (neg (lead (operations P) v f)) m.1
+      top = power (operations P) (neg (lead (operations P) v f)) m.1
 
       low : A
-      low = power_of (operations P) m.0 (m.1 - 1)
+      low = power (operations P) m.0 (m.1 - 1)
 
       top_not : NotZero P E top
       top_not = not_zero_power (neg (lead (operations P) v f)) m.1 (not_zero_negative (lead (operations P) v f) h)
 
   -- and beta is not zero where psi is not
-  pub beta_not_zero : (v : ℕ) (m : Memory (operations P)) (f q : A) (d : ℕ) → LeadNotZero v m f → NotZero P E q → NotZero P E (beta (operations P) m (lead (operations P) v f) q d)
+  pub beta_not_zero : (v : ℕ) (m : TurnBefore (operations P)) (f q : A) (d : ℕ) → LeadNotZero v m f → NotZero P E q → NotZero P E (beta (operations P) m (lead (operations P) v f) q d)
   beta_not_zero v None f q d hf hq = not_zero_sign (suc d)
-  beta_not_zero v (Some m) f q d hf hq = not_zero_product (neg (lead (operations P) v f)) (power_of (operations P) q d) (not_zero_negative (lead (operations P) v f) hf) (not_zero_power q d hq)
+  beta_not_zero v (Some m) f q d hf hq = not_zero_product (neg (lead (operations P) v f)) (power (operations P) q d) (not_zero_negative (lead (operations P) v f) hf) (not_zero_power q d hq)
 
   module _ (w v : ℕ) (chain : List (Row A)) (base : IsBase P.ring P.views P.laws v chain) (zeros : AllZero P E chain) where
     -- two rows are zero, and the lead that their turn divides by is not
-    abbrev pub AreZero : Memory (operations P) → Row A → Row A → Type 0
+    abbrev pub AreZero : TurnBefore (operations P) → Row A → Row A → Type 0
     AreZero m f g = IsZero P E f.first × IsZero P E g.first × LeadNotZero v m f.first
 
     -- then the next row is zero
-    pub next_row_zero : (m : Memory (operations P)) (f g : Row A) → IsTurn P.ring P.views P.laws v chain m f g → AreZero m f g → IsZero P E (next_row (operations P) w v chain m f g).first
+    pub next_row_zero : (m : TurnBefore (operations P)) (f g : Row A) → IsTurn P.ring P.views P.laws v chain m f g → AreZero m f g → IsZero P E (next_row (operations P) w v chain m f g).first
     next_row_zero m f g turn h = next_row_is P w v chain base m f g turn (λ t. IsZero P E t.first) (λ t e there. divides t.first (E.integral (val t.first) (val b) (sym (E.is_value.val-times t.first b) ∙ ap val e ∙ before))) before
       where
         b : A
@@ -87,7 +87,7 @@ module _ {A B : Type 0} (P : ViewedRing A) (E : Evaluation P B) where
         divides q (inr z) = absurd (beta_not_zero v m f.first (next_psi (operations P) w v m f) (fall (operations P) v f g) h.2 (psi_not_zero w v m f.first h.2) z)
 
     -- so each row is zero where the first two are, and no lead but that of the row before it is
-    pub rows_vanish : (k : ℕ) (m : Memory (operations P)) (f g : Row A) (H : Type 0) → IsTurn P.ring P.views P.laws v chain m f g → (H → AreZero m f g) → Vanish (operations P) val E.values.nil v H g (rows_from (operations P) w v chain k m f g).later
+    pub rows_vanish : (k : ℕ) (m : TurnBefore (operations P)) (f g : Row A) (H : Type 0) → IsTurn P.ring P.views P.laws v chain m f g → (H → AreZero m f g) → Vanish (operations P) val E.values.nil v H g (rows_from (operations P) w v chain k m f g).later
     rows_vanish zero m f g H turn known = tt
     rows_vanish (suc k) m f g H turn known = rows_by_turn P w v chain base (λ rows. Vanish (operations P) val E.values.nil v H g rows.later) k m f g (λ null. tt) (λ some e. (next_zero, tt)) (λ some d. (next_zero, rows_vanish k (Some (next_psi (operations P) w v m f, fall (operations P) v f g)) g (next_row (operations P) w v chain m f g) (H × NotZero P E (lead (operations P) v g.first)) (next_turn P w v chain base m f g turn some) (λ h. ((known h.0).1, next_zero h.0, h.1))))
       where

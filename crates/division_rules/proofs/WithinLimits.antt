@@ -1,9 +1,9 @@
 -- Where each product fits the width, the steps within it are those without a limit.
-use Rattle.std.proofs.Common.{◌≡◌, ℕ, zero, suc, ◌-◌, Bool, true, false, eqb, List, [], ◌∷◌, map, Option, Some, None, IfSome, refl, subst}
-use Rattle.division_rules.specs.Operations.{Operations, lead, shifted_lead, power_of}
+use Rattle.std.proofs.Common.{◌≡◌, ℕ, zero, suc, ◌-◌, Bool, true, false, eqb, List, [], ◌∷◌, map, Option, Some, None, IfSome, refl, subst, unwrap_or}
+use Rattle.division_rules.specs.Operations.{Operations, lead, shifted_lead, power}
 use Rattle.division_rules.specs.Rows.{Row, cross, cross_all, elimination, is_reduced_by, sparse_remainder_by, sparse_remainder, turns, times_row, pseudo_remainder_by, pseudo_remainder, reduction}
 use Rattle.division_rules.specs.Within.{and_then, times_within, cross_within, cross_all_within, row_within, elimination_within, sparse_remainder_by_within, sparse_remainder_within, times_all_within, times_row_within, pseudo_remainder_by_within, pseudo_remainder_within, reduction_within, power_of_within}
-use Rattle.division_rules.specs.RemainderRows.{Rows, with_row, or_else, divided, Memory, psi, beta, fall, undivided, rows_from, remainder_rows}
+use Rattle.division_rules.specs.RemainderRows.{LaterRows, with_row, divided, TurnBefore, psi, beta, fall, undivided, rows_from, remainder_rows}
 use Rattle.division_rules.specs.RemainderRowsWithin.{psi_within, beta_within, undivided_within, rows_onward, rows_from_within, remainder_rows_within}
 
 -- what is there is y
@@ -89,42 +89,42 @@ module _ {A : Type 0} (o : Operations A) (w : ℕ) where
   gives-reduction (t ∷ chain) f = gives-then (reduction_within o w chain f) (reduction o chain f) (λ g. sparse_remainder_within o w (o.views.main t.first) g t) (λ g. sparse_remainder o (o.views.main t.first) g t) (gives-reduction chain f) (λ g. gives-sparse_remainder (o.views.main t.first) g t)
 
   -- powers
-  pub gives-power_of : (a : A) (e : ℕ) → Gives (power_of_within o w a e) (power_of o a e)
+  pub gives-power_of : (a : A) (e : ℕ) → Gives (power_of_within o w a e) (power o a e)
   gives-power_of a zero = refl
   gives-power_of a (suc zero) = refl
-  gives-power_of a (suc (suc e)) = gives-then (power_of_within o w a (suc e)) (power_of o a (suc e)) (λ x. times_within o w x a) (λ x. o.times x a) (gives-power_of a (suc e)) (λ x. gives-times x a)
+  gives-power_of a (suc (suc e)) = gives-then (power_of_within o w a (suc e)) (power o a (suc e)) (λ x. times_within o w x a) (λ x. o.times x a) (gives-power_of a (suc e)) (λ x. gives-times x a)
 
   -- psi and beta, with quotients within the same width
-  pub gives-psi : (m : Memory o) (l : A) → Gives (psi_within o w m l) (psi o w m l)
+  pub gives-psi : (m : TurnBefore o) (l : A) → Gives (psi_within o w m l) (psi o w m l)
   gives-psi None l = refl
-  gives-psi (Some m) l = gives-then (power_of_within o w (o.minus l) m.1) (power_of o (o.minus l) m.1) (λ top. and_then (power_of_within o w m.0 (m.1 - 1)) (λ low. Some (or_else (o.views.quotient w top low) top))) (λ top. or_else (o.views.quotient w top (power_of o m.0 (m.1 - 1))) top) (gives-power_of (o.minus l) m.1) (λ top. gives-then (power_of_within o w m.0 (m.1 - 1)) (power_of o m.0 (m.1 - 1)) (λ low. Some (or_else (o.views.quotient w top low) top)) (λ low. or_else (o.views.quotient w top low) top) (gives-power_of m.0 (m.1 - 1)) (λ low. refl))
+  gives-psi (Some m) l = gives-then (power_of_within o w (o.minus l) m.1) (power o (o.minus l) m.1) (λ top. and_then (power_of_within o w m.0 (m.1 - 1)) (λ low. Some (unwrap_or (o.views.quotient w top low) top))) (λ top. unwrap_or (o.views.quotient w top (power o m.0 (m.1 - 1))) top) (gives-power_of (o.minus l) m.1) (λ top. gives-then (power_of_within o w m.0 (m.1 - 1)) (power o m.0 (m.1 - 1)) (λ low. Some (unwrap_or (o.views.quotient w top low) top)) (λ low. unwrap_or (o.views.quotient w top low) top) (gives-power_of m.0 (m.1 - 1)) (λ low. refl))
 
   -- beta
-  pub gives-beta : (m : Memory o) (l q : A) (d : ℕ) → Gives (beta_within o w m l q d) (beta o m l q d)
+  pub gives-beta : (m : TurnBefore o) (l q : A) (d : ℕ) → Gives (beta_within o w m l q d) (beta o m l q d)
   gives-beta None l q d = refl
-  gives-beta (Some m) l q d = gives-then (power_of_within o w q d) (power_of o q d) (λ x. times_within o w (o.minus l) x) (λ x. o.times (o.minus l) x) (gives-power_of q d) (λ x. gives-times (o.minus l) x)
+  gives-beta (Some m) l q d = gives-then (power_of_within o w q d) (power o q d) (λ x. times_within o w (o.minus l) x) (λ x. o.times (o.minus l) x) (gives-power_of q d) (λ x. gives-times (o.minus l) x)
 
   -- the row before its division
   pub gives-undivided : (v : ℕ) (chain : List (Row A)) (f g : Row A) → Gives (undivided_within o w v chain f g) (undivided o v chain f g)
   gives-undivided v chain f g = gives-then (pseudo_remainder_within o w v f g) (pseudo_remainder o v f g) (λ h. reduction_within o w chain h) (λ h. reduction o chain h) (gives-pseudo_remainder v f g) (λ h. gives-reduction chain h)
 
   -- the rows from an undivided row on, without a limit
-  abbrev pub onward : ℕ → (Memory o → Row A → Row A → Rows A) → Row A → Row A → Row A → A → A → Rows A
+  abbrev pub onward : ℕ → (TurnBefore o → Row A → Row A → LaterRows A) → Row A → Row A → Row A → A → A → LaterRows A
   onward v further f g s q b =
-      let h = or_else (divided o w b s) s in
+      let h = unwrap_or (divided o w b s) s in
       elim (eqb (o.views.degree v h.first) 0) [
         | true ↦ record { later = h ∷ []; last = None }
         | false ↦ with_row h (further (Some (q, fall o v f g)) g h)
       ]
 
   -- and they are what the rows within the width are, where the further rows are
-  pub gives-onward : (v : ℕ) (limited : Memory o → Row A → Row A → Option (Rows A)) (further : Memory o → Row A → Row A → Rows A) → ((m : Memory o) (f g : Row A) → Gives (limited m f g) (further m f g)) → (f g s : Row A) (q b : A) → Gives (rows_onward o w v limited f g s q b) (onward v further f g s q b)
+  pub gives-onward : (v : ℕ) (limited : TurnBefore o → Row A → Row A → Option (LaterRows A)) (further : TurnBefore o → Row A → Row A → LaterRows A) → ((m : TurnBefore o) (f g : Row A) → Gives (limited m f g) (further m f g)) → (f g s : Row A) (q b : A) → Gives (rows_onward o w v limited f g s q b) (onward v further f g s q b)
   gives-onward v limited further k f g s q b =
-      let h = or_else (divided o w b s) s in
+      let h = unwrap_or (divided o w b s) s in
       gives-choice (eqb (o.views.degree v h.first) 0) (Some (record { later = h ∷ []; last = None })) (and_then (limited (Some (q, fall o v f g)) g h) (λ rows. Some (with_row h rows))) (record { later = h ∷ []; last = None }) (with_row h (further (Some (q, fall o v f g)) g h)) refl (gives-then (limited (Some (q, fall o v f g)) g h) (further (Some (q, fall o v f g)) g h) (λ rows. Some (with_row h rows)) (with_row h) (k (Some (q, fall o v f g)) g h) (λ rows. refl))
 
   -- remainder rows, with quotients within the same width
-  pub gives-rows_from : (v : ℕ) (chain : List (Row A)) (k : ℕ) (m : Memory o) (f g : Row A) → Gives (rows_from_within o w v chain k m f g) (rows_from o w v chain k m f g)
+  pub gives-rows_from : (v : ℕ) (chain : List (Row A)) (k : ℕ) (m : TurnBefore o) (f g : Row A) → Gives (rows_from_within o w v chain k m f g) (rows_from o w v chain k m f g)
   gives-rows_from v chain zero m f g = refl
   gives-rows_from v chain (suc k) m f g = gives-then (undivided_within o w v chain f g) (undivided o v chain f g) limited_turn turn (gives-undivided v chain f g) (λ s. gives-choice (o.views.is_nil s.first) (Some (record { later = []; last = Some s })) (limited_onward s) (record { later = []; last = Some s }) (onward v further f g s q (beta o m l q (fall o v f g))) refl (gives-then (psi_within o w m l) q (λ y. and_then (beta_within o w m l y (fall o v f g)) (λ b. rows_onward o w v limited f g s y b)) (λ y. onward v further f g s y (beta o m l y (fall o v f g))) (gives-psi m l) (λ y. gives-then (beta_within o w m l y (fall o v f g)) (beta o m l y (fall o v f g)) (λ b. rows_onward o w v limited f g s y b) (λ b. onward v further f g s y b) (gives-beta m l y (fall o v f g)) (λ b. gives-onward v limited further (λ n x y. gives-rows_from v chain k n x y) f g s y b))))
     where
@@ -134,19 +134,19 @@ module _ {A : Type 0} (o : Operations A) (w : ℕ) where
       q : A
       q = psi o w m l
 
-      limited : Memory o → Row A → Row A → Option (Rows A)
+      limited : TurnBefore o → Row A → Row A → Option (LaterRows A)
       limited n x y = rows_from_within o w v chain k n x y
 
-      further : Memory o → Row A → Row A → Rows A
+      further : TurnBefore o → Row A → Row A → LaterRows A
       further n x y = rows_from o w v chain k n x y
 
-      limited_onward : Row A → Option (Rows A)
+      limited_onward : Row A → Option (LaterRows A)
       limited_onward s = and_then (psi_within o w m l) (λ y. and_then (beta_within o w m l y (fall o v f g)) (λ b. rows_onward o w v limited f g s y b))
 
-      limited_turn : Row A → Option (Rows A)
+      limited_turn : Row A → Option (LaterRows A)
       limited_turn s = elim (o.views.is_nil s.first) [ true ↦ Some (record { later = []; last = Some s }) | false ↦ limited_onward s ]
 
-      turn : Row A → Rows A
+      turn : Row A → LaterRows A
       turn s = elim (o.views.is_nil s.first) [ true ↦ record { later = []; last = Some s } | false ↦ onward v further f g s q (beta o m l q (fall o v f g)) ]
 
   -- the remainder rows of t and c

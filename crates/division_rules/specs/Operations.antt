@@ -1,6 +1,7 @@
 -- What division asks of polynomials: ring operations without their laws, and views in a variable.
 use Rattle.std.specs.Prelude.{ℕ, zero, suc, ◌-◌, Bool, Option}
 use Rattle.polynomials.specs.Rings.{Ring}
+use Rattle.polynomials.specs.Sums.{power_by}
 
 -- what a polynomial shows: whether it is 0, degree and coefficients in a variable, its main variable,
 -- powers of variables, products that fit a width, and quotients that fit it
@@ -40,10 +41,8 @@ module _ {A : Type 0} (o : Operations A) where
   shifted_lead v f g = o.times (o.views.variable_power v (o.views.degree v f - o.views.degree v g)) (lead v f)
 
   -- a to the power e
-  abbrev pub power_of : A → ℕ → A
-  power_of a zero = o.one
-  power_of a (suc zero) = a
-  power_of a (suc (suc e)) = o.times (power_of a (suc e)) a
+  abbrev pub power : A → ℕ → A
+  power a e = power_by o.one o.times a e
 
   -- 1 where k is even, -1 where it is odd
   abbrev pub sign : ℕ → A

@@ -1,5 +1,6 @@
 -- Rows, elimination, sparse and full pseudo-remainders, and reduction by a chain.
 use Rattle.std.specs.Prelude.{ℕ, zero, suc, ◌-◌, Bool, true, false, ◌||◌, ltb, List, [], ◌∷◌, map}
+use Rattle.polynomials.specs.Sums.{sum_of_products}
 use Rattle.division_rules.specs.Operations.{Operations, lead, shifted_lead}
 
 -- a first entry, and its cofactors over named generators
@@ -13,15 +14,16 @@ plain f = record { first = f; cofactors = [] }
 
 -- polynomials as rows without cofactors
 abbrev pub plains : {A : Type 0} → List A → List (Row A)
-plains [] = []
-plains (t ∷ chain) = plain t ∷ plains chain
+plains fs = map plain fs
+
+-- the first entries of rows
+abbrev pub first_entries : {A : Type 0} → List (Row A) → List A
+first_entries rows = map (λ f. f.first) rows
 
 module _ {A : Type 0} (o : Operations A) where
   -- the sum of the cofactors times the generators
   abbrev pub combined : List A → List A → A
-  combined [] gs = o.nil
-  combined (c ∷ cs) [] = o.nil
-  combined (c ∷ cs) (g ∷ gs) = o.plus (o.times c g) (combined cs gs)
+  combined cs gs = sum_of_products o.nil o.plus o.times cs gs
 
   -- l f - m g
   abbrev pub cross : A → A → A → A → A
@@ -62,10 +64,17 @@ module _ {A : Type 0} (o : Operations A) where
   abbrev pub times_row : A → Row A → Row A
   times_row l f = record { first = o.times l f.first; cofactors = map (o.times l) f.cofactors }
 
-  -- k turns, each an elimination by g or, where none is left, a multiplication by its lead
+  -- a turn: an elimination by g or, where none is left, a multiplication by its lead
+  abbrev pub pseudo_turn : ℕ → Row A → Row A → Row A
+  pseudo_turn v g f = elim (is_reduced_by v g f) [
+    | true ↦ times_row (lead o v g.first) f
+    | false ↦ elimination v f g
+  ]
+
+  -- k turns
   abbrev pub pseudo_remainder_by : ℕ → Row A → ℕ → Row A → Row A
   pseudo_remainder_by v g zero f = f
-  pseudo_remainder_by v g (suc k) f = pseudo_remainder_by v g k (elim (is_reduced_by v g f) [ true ↦ times_row (lead o v g.first) f | false ↦ elimination v f g ])
+  pseudo_remainder_by v g (suc k) f = pseudo_remainder_by v g k (pseudo_turn v g f)
 
   -- the pseudo-remainder, with the power d - e + 1 for the degrees d and e
   abbrev pub pseudo_remainder : ℕ → Row A → Row A → Row A

@@ -4,7 +4,7 @@ use Rattle.polynomials.specs.Primes.{IsPrime}
 use Rattle.polynomials.specs.Polynomials.{Polynomial, IsPolynomial, ArePolynomials, product_of}
 use Rattle.polynomials.specs.Views.{degree_in, is_constant}
 use Rattle.polynomials.specs.Fits.{fits}
-use Rattle.division_rules.specs.Operations.{power_of}
+use Rattle.division_rules.specs.Operations.{power}
 use Rattle.division_rules.specs.Quotients.{quotient_within, without_factors}
 use Rattle.division_rules.specs.Factors.{IsProductByMembers}
 use Rattle.division_rules.specs.Lists.{list_operations}
@@ -69,7 +69,7 @@ pub record AreUnlimited (p n w : ℕ) : Type 0 where
   pub sparse_remainder : (v : ℕ) (f g : Row Polynomial) → IfSome (sparse_remainder_within (list_operations p n) w v f g) (λ h. h ≡ sparse_remainder (list_operations p n) v f g)
   pub pseudo_remainder : (v : ℕ) (f g : Row Polynomial) → IfSome (pseudo_remainder_within (list_operations p n) w v f g) (λ h. h ≡ pseudo_remainder (list_operations p n) v f g)
   pub reduction : (chain : List (Row Polynomial)) (f : Row Polynomial) → IfSome (reduction_within (list_operations p n) w chain f) (λ h. h ≡ reduction (list_operations p n) chain f)
-  pub power : (f : Polynomial) (e : ℕ) → IfSome (power_of_within (list_operations p n) w f e) (λ h. h ≡ power_of (list_operations p n) f e)
+  pub power : (f : Polynomial) (e : ℕ) → IfSome (power_of_within (list_operations p n) w f e) (λ h. h ≡ power (list_operations p n) f e)
   -- with quotients of the same width on both sides
   pub remainder_rows : (v : ℕ) (chain : List (Row Polynomial)) (t c : Row Polynomial) → IfSome (remainder_rows_within (list_operations p n) w v chain t c) (λ rows. rows ≡ remainder_rows (list_operations p n) w v chain t c)
 

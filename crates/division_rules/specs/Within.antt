@@ -1,12 +1,11 @@
 -- The same steps within a width: None where a named product doesn't fit.
-use Rattle.std.specs.Prelude.{ℕ, zero, suc, true, false, List, [], ◌∷◌, Option, Some, None}
+use Rattle.std.specs.Prelude.{ℕ, zero, suc, true, false, List, [], ◌∷◌, Option, Some, None, option_and_then}
 use Rattle.division_rules.specs.Operations.{Operations, lead, shifted_lead}
 use Rattle.division_rules.specs.Rows.{Row, is_reduced_by, turns}
 
 -- the second step, where there is a result of the first
 abbrev pub and_then : {B C : Type 0} → Option B → (B → Option C) → Option C
-and_then None f = None
-and_then (Some x) f = f x
+and_then x f = option_and_then f x
 
 module _ {A : Type 0} (o : Operations A) (w : ℕ) where
   -- the product, where it fits
@@ -49,10 +48,18 @@ module _ {A : Type 0} (o : Operations A) (w : ℕ) where
   abbrev pub times_row_within : A → Row A → Option (Row A)
   times_row_within l f = row_within (times_within l f.first) (times_all_within l f.cofactors)
 
-  -- k turns, each an elimination by g or, where none is left, a multiplication by its lead
+  -- a turn: an elimination by g or, where none is left, a multiplication by its lead
+  abbrev pub pseudo_turn_within : ℕ → Row A → Row A → Option (Row A)
+  pseudo_turn_within v g f = elim (is_reduced_by o v g f) [
+    | true ↦ times_row_within (lead o v g.first) f
+    | false ↦ elimination_within v f g
+  ]
+
+  -- k turns
   abbrev pub pseudo_remainder_by_within : ℕ → Row A → ℕ → Row A → Option (Row A)
   pseudo_remainder_by_within v g zero f = Some f
-  pseudo_remainder_by_within v g (suc k) f = and_then (elim (is_reduced_by o v g f) [ true ↦ times_row_within (lead o v g.first) f | false ↦ elimination_within v f g ]) (λ h. pseudo_remainder_by_within v g k h)
+  pseudo_remainder_by_within v g (suc k) f =
+      and_then (pseudo_turn_within v g f) (λ h. pseudo_remainder_by_within v g k h)
 
   -- the pseudo-remainder
   abbrev pub pseudo_remainder_within : ℕ → Row A → Row A → Option (Row A)

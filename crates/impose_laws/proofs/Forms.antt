@@ -3,7 +3,7 @@ use Rattle.std.proofs.Common.{◌≡◌, ℕ, zero, suc, List, [], ◌∷◌, �
 use Rattle.std.specs.List.{AllByRecursion}
 use Rattle.polynomials.specs.Primes.{IsPrime}
 use Rattle.polynomials.specs.Polynomials.{Polynomial, IsPolynomial, ArePolynomials, monic}
-use Rattle.polynomials.specs.Views.{degree_in, lead_in, tail_in, main_var, IsFreeOf}
+use Rattle.polynomials.specs.Views.{degree_in, lead_in, tail_in, main_var, IsFreeOf, AreFreeOf}
 use Rattle.polynomials.proofs.Coefficients.{IsPolynomial-coefficient_in}
 use Rattle.polynomials.proofs.ExponentsBelow.{ExponentsBelow-one, ExponentsBelow-without_power}
 use Rattle.polynomials.proofs.LeadAndTail.{lead_and_tail}
@@ -17,7 +17,7 @@ use Rattle.division_rules.proofs.Steps.{choose}
 use Rattle.impose_rules.specs.Factors.{stripped}
 use Rattle.impose_rules.specs.Leads.{with_all_nonzero}
 use Rattle.impose_rules.specs.Chains.{with_member}
-use Rattle.impose_laws.specs.TaskForms.{AreFreeOf, IsTaskFreeOf, AreMonic, KeepsForm}
+use Rattle.impose_laws.specs.TaskForms.{IsTaskFreeOf, AreMonic, KeepsForm}
 use Rattle.impose_rules.proofs.Lists.{each_appended, each_implied}
 use Rattle.impose_laws.proofs.MonicForms.{degree_in-monic}
 use Rattle.impose_laws.proofs.Stripped.{IsPolynomial-stripped, stripped_free, main_var-stripped}

@@ -3,7 +3,7 @@ use Rattle.std.proofs.Common.{◌≡◌, ℕ, ◌-◌, List, [], ◌∷◌, ◌+
 use Rattle.std.specs.List.{AllByRecursion}
 use Rattle.polynomials.specs.Primes.{IsPrime}
 use Rattle.polynomials.specs.Polynomials.{Polynomial, ArePolynomials, monic}
-use Rattle.polynomials.specs.Views.{degree_in, lead_in, tail_in, main_var, IsFreeOf}
+use Rattle.polynomials.specs.Views.{degree_in, lead_in, tail_in, main_var, IsFreeOf, AreFreeOf}
 use Rattle.polynomials.proofs.Degrees.{coefficient_in_free}
 use Rattle.zero_sets.specs.ZeroSets.{member_in, members_below}
 use Rattle.zero_sets.specs.Tasks.{Task, is_known_nonzero, with_nonzero}
@@ -11,7 +11,7 @@ use Rattle.division_rules.specs.Rows.{Row}
 use Rattle.division_rules.proofs.Steps.{choose}
 use Rattle.impose_rules.specs.Leads.{with_all_nonzero, lead_cases}
 use Rattle.impose_rules.specs.Impose.{child_extended, child_initial, child_lead, child_common, impose_children}
-use Rattle.impose_laws.specs.TaskForms.{AreFreeOf, IsTaskFreeOf, KeepsForm}
+use Rattle.impose_laws.specs.TaskForms.{IsTaskFreeOf, KeepsForm}
 use Rattle.impose_laws.specs.Laws.{ChildrenKeepTheForm}
 use Rattle.impose_rules.proofs.Lists.{each_appended, each_implied}
 use Rattle.impose_laws.proofs.RowStarts.{IsStart}

@@ -12,7 +12,7 @@ use Rattle.zero_sets.proofs.ValueLaws.{zero_number, zero_element}
 use Rattle.division_rules.specs.Rows.{Row, plain, plains, reduction}
 use Rattle.division_rules.specs.Lists.{list_operations}
 use Rattle.division_rules.specs.Chains.{EachRow}
-use Rattle.division_rules.specs.RemainderRows.{Rows, leads}
+use Rattle.division_rules.specs.RemainderRows.{LaterRows, leads}
 use Rattle.division_rules.specs.Turns.{last_row}
 use Rattle.division_rules.proofs.Settings.{Evaluation, operations, AllZero}
 use Rattle.division_rules.proofs.PolynomialSetting.{polynomial_evaluation}
@@ -65,7 +65,7 @@ module _ (p n : ℕ) (prime : IsPrime p) (r : Tables) (domain : IsFiniteDomain p
           lead = subst (λ h. value_at r xs (lead_in v h.first) ≢ r.nil) last_same (λ z. ended.2.lead_not_zero (zero_element p r domain xs point (lead_in v last.first.0) z));
         }
       where
-        lifts : Rows (CanonicalPolynomial p n)
+        lifts : LaterRows (CanonicalPolynomial p n)
         lifts = lifted_rows p n prime w v chain t c start
 
         same : down_rows p n prime.many lifts ≡ rows p n prime w v chain t c start

@@ -11,7 +11,7 @@ use Rattle.polynomials.proofs.ExponentsBelow.{ExponentsBelow, ExponentsBelow-one
 use Rattle.division_rules.specs.Rows.{Row, plain, plains, reduction}
 use Rattle.division_rules.specs.Lists.{list_operations, variable_or_zero}
 use Rattle.division_rules.specs.Chains.{EachRow}
-use Rattle.division_rules.specs.RemainderRows.{Rows, remainder_rows}
+use Rattle.division_rules.specs.RemainderRows.{LaterRows, remainder_rows}
 use Rattle.division_rules.specs.Turns.{DegreesFall}
 use Rattle.division_rules.specs.PolynomialRows.{AreRemainderRows}
 use Rattle.division_rules.proofs.Settings.{operations}
@@ -46,11 +46,11 @@ module _ (p n : ℕ) (prime : IsPrime p) where
 
   module _ (w v : ℕ) (chain : List Polynomial) (t c : Polynomial) (start : IsStart p n v chain t c) where
     -- the rows of canonical polynomials
-    abbrev pub lifted_rows : Rows (CanonicalPolynomial p n)
+    abbrev pub lifted_rows : LaterRows (CanonicalPolynomial p n)
     lifted_rows = remainder_rows (operations (P p n prime)) w v (below_rows p n prime v chain t c start) (row_t p n prime v chain t c start) (row_c p n prime v chain t c start)
 
     -- and those of their lists of terms
-    abbrev pub rows : Rows Polynomial
+    abbrev pub rows : LaterRows Polynomial
     rows = remainder_rows (list_operations p n) w v (plains chain) (plain t) (plain c)
 
     pub down-lifted_rows : down_rows p n prime.many lifted_rows ≡ rows

@@ -9,16 +9,17 @@ use Rattle.polynomials.proofs.MainVariables.{free_above_main_var}
 use Rattle.polynomials.proofs.ExponentsBelow.{ExponentsBelow, ExponentsBelow-one, ExponentsBelow-more, ExponentsBelow-degree}
 use Rattle.zero_sets.specs.ZeroSets.{IsTriangular}
 use Rattle.impose_rules.proofs.ChainParts.{HasMainBelow, triangular_plains}
-use Rattle.division_rules.specs.Rows.{Row, plain, plains}
+use Rattle.division_rules.specs.Rows.{Row, plain, plains, first_entries}
 use Rattle.division_rules.specs.Lists.{variable_or_zero}
 use Rattle.division_rules.specs.Chains.{EachRow, IsReduced, IsFree}
 use Rattle.division_rules.specs.Turns.{IsBase, IsTurn}
-use Rattle.division_rules.specs.Triangular.{AreTriangularFrom, HasLessDegree}
+use Rattle.division_rules.specs.Triangular.{HasLessDegree}
 use Rattle.division_rules.proofs.Settings.{ViewedRing}
 use Rattle.division_rules.proofs.PolynomialSetting.{polynomial_setting}
 use Rattle.division_rules.proofs.ChainParts.{first_turn}
 use Rattle.division_rules.proofs.TriangularReductions.{chain_from_triangular}
 use Rattle.division_rules.proofs.Down.{down_all, down-plains}
+use Rattle.polynomials.specs.Triangular.{IsTriangularFrom}
 use Rattle.division_rules.proofs.Up.{up_all, terms-up_all}
 
 -- t and c start remainder rows in v below the chain
@@ -72,7 +73,7 @@ module _ (p n : ℕ) (prime : IsPrime p) where
     -- the chain lies below v
     pub start_base : IsBase P.ring P.views P.laws v below_rows
     start_base = record {
-      increasing = chain_from_triangular p n prime 0 below_rows (subst (AreTriangularFrom 0) (sym (down-lifted chain start.canonical_chain)) (triangular_plains 0 chain start.triangular));
+      increasing = chain_from_triangular p n prime 0 below_rows (subst (λ rows. IsTriangularFrom 0 (first_entries rows)) (sym (down-lifted chain start.canonical_chain)) (triangular_plains 0 chain start.triangular));
       apart = apart_from v v (omega arith) chain start.canonical_chain start.below;
       free = free_of v v (omega arith) chain start.canonical_chain start.below;
     }

@@ -2,7 +2,7 @@
 use Rattle.std.specs.Prelude.{◌≡◌, ◌⊎◌, ℕ, List, [], ◌∷◌}
 use Rattle.std.specs.List.{AllByRecursion}
 use Rattle.polynomials.specs.Polynomials.{Polynomial, ArePolynomials, monic}
-use Rattle.polynomials.specs.Views.{IsFreeOf}
+use Rattle.polynomials.specs.Views.{AreFreeOf}
 use Rattle.zero_sets.specs.Domains.{Tables}
 use Rattle.zero_sets.specs.ZeroSets.{IsTriangular}
 use Rattle.zero_sets.specs.Tasks.{Task, InTask, AreMonicApart}
@@ -10,10 +10,6 @@ use Rattle.zero_sets.specs.Tasks.{Task, InTask, AreMonicApart}
 -- the polynomials of the task are canonical, in n variables modulo p
 abbrev pub IsTaskOver : ℕ → ℕ → Task → Type 0
 IsTaskOver p n t = ArePolynomials p n t.chain × ArePolynomials p n t.queue × ArePolynomials p n t.nonzero
-
--- v occurs in none of fs
-abbrev pub AreFreeOf : ℕ → List Polynomial → Type 0
-AreFreeOf v fs = AllByRecursion (IsFreeOf v) fs
 
 -- v occurs in no polynomial of the task
 abbrev pub IsTaskFreeOf : ℕ → Task → Type 0

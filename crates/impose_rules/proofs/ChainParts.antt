@@ -6,8 +6,7 @@ use Rattle.polynomials.specs.Polynomials.{Polynomial, IsPolynomial, ArePolynomia
 use Rattle.polynomials.specs.Views.{main_var}
 use Rattle.zero_sets.specs.ZeroSets.{IsTriangularFrom, IsTriangular, is_variable, member_in, is_variable_below, members_below}
 use Rattle.zero_sets.proofs.TriangularSets.{triangular_sooner, below_triangular}
-use Rattle.division_rules.specs.Rows.{plains}
-use Rattle.division_rules.specs.Triangular.{AreTriangularFrom}
+use Rattle.division_rules.specs.Rows.{plains, first_entries}
 use Rattle.division_rules.proofs.Steps.{choose}
 use Rattle.impose_rules.specs.Chains.{is_variable_above, members_above, with_member}
 use Rattle.impose_rules.proofs.Lists.{each_appended}
@@ -49,7 +48,7 @@ below_are_below v (t ∷ chain) = choose (AllByRecursion (HasMainBelow v)) (is_v
     is_below (Some u) e d = (u, e, ltb-true u v d)
 
 -- a triangular set, as rows
-pub triangular_plains : (v : ℕ) (chain : List Polynomial) → IsTriangularFrom v chain → AreTriangularFrom v (plains chain)
+pub triangular_plains : (v : ℕ) (chain : List Polynomial) → IsTriangularFrom v chain → IsTriangularFrom v (first_entries (plains chain))
 triangular_plains v [] h = tt
 triangular_plains v (t ∷ chain) h = (h.0, h.1, h.2, triangular_plains (suc h.0) chain h.3)
 

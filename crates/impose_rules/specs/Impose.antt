@@ -6,7 +6,7 @@ use Rattle.zero_sets.specs.ZeroSets.{member_in, members_below}
 use Rattle.zero_sets.specs.Tasks.{Task, is_known_nonzero, with_nonzero}
 use Rattle.division_rules.specs.Rows.{Row, plain, plains}
 use Rattle.division_rules.specs.Within.{and_then, reduction_within}
-use Rattle.division_rules.specs.RemainderRows.{Rows, leads}
+use Rattle.division_rules.specs.RemainderRows.{LaterRows, leads}
 use Rattle.division_rules.specs.RemainderRowsWithin.{remainder_rows_within}
 use Rattle.division_rules.specs.Turns.{last_row}
 use Rattle.division_rules.specs.Lists.{list_operations}
@@ -49,7 +49,7 @@ module _ (p n w : ℕ) (chain rest ns : List Polynomial) where
   child_common v ls last (Some zero_row) = record { chain = with_member v (stripped p w ls last) chain; queue = rest; nonzero = with_all_nonzero p ns ls } ∷ []
 
   -- the children by the remainder rows after r
-  abbrev pub children_by_rows : ℕ → Polynomial → Rows Polynomial → List Task
+  abbrev pub children_by_rows : ℕ → Polynomial → LaterRows Polynomial → List Task
   children_by_rows v r rows =
       let ls = leads (list_operations p n) v (plain r ∷ rows.later) in
       child_common v ls (last_row (plain r) rows.later).first rows.last ++ map (child_lead r ls) (lead_cases p ns ls) ++ child_initial v r

@@ -10,7 +10,7 @@ use Rattle.zero_sets.specs.Tasks.{Task}
 use Rattle.division_rules.specs.Rows.{Row, plain, plains}
 use Rattle.division_rules.specs.Turns.{last_row}
 use Rattle.division_rules.specs.Within.{and_then}
-use Rattle.division_rules.specs.RemainderRows.{Rows, leads}
+use Rattle.division_rules.specs.RemainderRows.{LaterRows, leads}
 use Rattle.division_rules.specs.RemainderRowsWithin.{remainder_rows_within}
 use Rattle.division_rules.proofs.WithinLimits.{gives-remainder_rows}
 use Rattle.impose_rules.specs.Factors.{stripped}
@@ -78,10 +78,10 @@ module _ (p w v : ℕ) (r : Polynomial) (left : Task) where
     main_t = member_main v left.chain t found
 
     -- where they are common, the last one has the main variable v, also without the leads
-    common_main : (x : Rows Polynomial) → x ≡ rows p VARS prime w v below t r start → (z : Row Polynomial) → x.last ≡ Some z → main_var (stripped p w (leads_after x.later) (last_after x.later)) ≡ Some v
-    common_main x e = subst (λ (y : Rows Polynomial). (z : Row Polynomial) → y.last ≡ Some z → main_var (stripped p w (leads_after y.later) (last_after y.later)) ≡ Some v) (sym e) (λ z last. main_var-stripped p VARS w prime (leads_after (rows p VARS prime w v below t r start).later) (leads_canonical p VARS prime w v below t r start) v (leads_free p VARS prime w v below t r start) (last_polynomial p VARS prime w v below t r start) (last_canonical p VARS prime w v below t r start) (last_main p VARS prime w v below t r start z last main_t main))
+    common_main : (x : LaterRows Polynomial) → x ≡ rows p VARS prime w v below t r start → (z : Row Polynomial) → x.last ≡ Some z → main_var (stripped p w (leads_after x.later) (last_after x.later)) ≡ Some v
+    common_main x e = subst (λ (y : LaterRows Polynomial). (z : Row Polynomial) → y.last ≡ Some z → main_var (stripped p w (leads_after y.later) (last_after y.later)) ≡ Some v) (sym e) (λ z last. main_var-stripped p VARS w prime (leads_after (rows p VARS prime w v below t r start).later) (leads_canonical p VARS prime w v below t r start) v (leads_free p VARS prime w v below t r start) (last_polynomial p VARS prime w v below t r start) (last_canonical p VARS prime w v below t r start) (last_main p VARS prime w v below t r start z last main_t main))
 
-    outcome : (o : Option (Rows Polynomial)) → IfSome o (λ y. y ≡ rows p VARS prime w v below t r start) → children_by p w v r left (outcome_after p v (plain t ∷ plain r ∷ []) o) ≡ and_then o (λ x. Some (children_by_rows p VARS w left.chain left.queue left.nonzero v r x))
+    outcome : (o : Option (LaterRows Polynomial)) → IfSome o (λ y. y ≡ rows p VARS prime w v below t r start) → children_by p w v r left (outcome_after p v (plain t ∷ plain r ∷ []) o) ≡ and_then o (λ x. Some (children_by_rows p VARS w left.chain left.queue left.nonzero v r x))
     outcome None e = refl
     outcome (Some x) e = children_ended t x.later x.last (common_main x e)
 

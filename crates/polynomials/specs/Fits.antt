@@ -3,6 +3,7 @@ use Rattle.std.specs.Prelude.{ℕ, zero, suc, ◌*◌, max, Bool, true, false, �
 use Rattle.polynomials.specs.Monomials.{Monomial, monomial_product}
 pub use Rattle.polynomials.specs.Monomials.{most_exponent}
 use Rattle.polynomials.specs.Polynomials.{Polynomial, product_of, one_of, is_zero}
+use Rattle.polynomials.specs.Sums.{power_by}
 
 -- the greater exponent of each variable
 abbrev pub greater_exponents : Monomial → Monomial → Monomial
@@ -31,9 +32,7 @@ product_within p w f g = elim (fits w f g) [ true ↦ Some (product_of p f g) | 
 
 -- f to the power e, in n variables
 abbrev pub power_of : ℕ → ℕ → Polynomial → ℕ → Polynomial
-power_of p n f zero = one_of n
-power_of p n f (suc zero) = f
-power_of p n f (suc (suc e)) = product_of p (power_of p n f (suc e)) f
+power_of p n f e = power_by (one_of n) (product_of p) f e
 
 -- the product by f of what was made so far, where there is any and it fits
 abbrev pub product_so_far : ℕ → ℕ → Polynomial → Option Polynomial → Option Polynomial

@@ -4,6 +4,8 @@ pub mod MonomialOrders
 pub mod Polynomials
 pub mod Equalities
 pub mod Views
+pub mod Triangular
+pub mod Sums
 pub mod Fits
 pub mod Rings
 pub mod Laws

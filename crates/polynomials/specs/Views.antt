@@ -1,5 +1,6 @@
 -- A polynomial seen as one in a single variable: degree, coefficients, lead, tail, main variable.
-use Rattle.std.specs.Prelude.{◌≡◌, ℕ, max, Bool, true, false, cond, eqb, [], ◌∷◌, set, Option, Some, None}
+use Rattle.std.specs.Prelude.{◌≡◌, ℕ, max, Bool, true, false, cond, eqb, List, [], ◌∷◌, set, Option, Some, None}
+use Rattle.std.specs.List.{AllByRecursion}
 use Rattle.polynomials.specs.Monomials.{exponent_of, greatest_variable}
 use Rattle.polynomials.specs.Polynomials.{term, Polynomial}
 
@@ -49,6 +50,10 @@ is_constant f = is_no_variable (main_var f)
 -- v doesn't occur in f
 abbrev pub IsFreeOf : ℕ → Polynomial → Type 0
 IsFreeOf v f = degree_in v f ≡ 0
+
+-- v occurs in none of them
+abbrev pub AreFreeOf : ℕ → List Polynomial → Type 0
+AreFreeOf v fs = AllByRecursion (IsFreeOf v) fs
 
 -- the lead in v, where v is the main variable of f; f itself where f is constant
 abbrev pub lead_in_main : Polynomial → Option ℕ → Polynomial

@@ -8,11 +8,11 @@ use Rattle.polynomials.proofs.MainVariables.{degree_in_main_var}
 use Rattle.polynomials.proofs.ExponentsBelow.{degree_in-past}
 use Rattle.item_lists.proofs.Places.{drop_at}
 use Rattle.division_rules.specs.Operations.{Operations}
-use Rattle.division_rules.specs.Rows.{Row}
+use Rattle.division_rules.specs.Rows.{Row, first_entries}
 use Rattle.division_rules.specs.Chains.{EachRow}
 use Rattle.division_rules.specs.Lists.{variable_or_zero}
 use Rattle.division_rules.specs.PolynomialRows.{IsPolynomialRow, ArePolynomialRows}
-use Rattle.division_rules.specs.Triangular.{AreTriangularFrom}
+use Rattle.polynomials.specs.Triangular.{IsTriangularFrom}
 use Rattle.division_rules.specs.Within.{and_then, sparse_remainder_within, reduction_within}
 
 -- what holds of each row holds of that at a place
@@ -22,19 +22,19 @@ EachRow-at P (u ∷ rows) zero t each e = let same : u ≡ t = cc in subst P sam
 EachRow-at P (u ∷ rows) (suc i) t each e = EachRow-at P rows i t each.1 e
 
 -- the member at a place has a main variable
-main_at : (v : ℕ) (rows : List (Row Polynomial)) (i : ℕ) (t : Row Polynomial) → AreTriangularFrom v rows → slice_get rows i ≡ Some t → (u : ℕ) × (main_var t.first ≡ Some u)
+main_at : (v : ℕ) (rows : List (Row Polynomial)) (i : ℕ) (t : Row Polynomial) → IsTriangularFrom v (first_entries rows) → slice_get rows i ≡ Some t → (u : ℕ) × (main_var t.first ≡ Some u)
 main_at v [] i t are e = cc
 main_at v (s ∷ rows) zero t are e = let same : s ≡ t = cc in (are.0, sym (ap (λ (x : Row Polynomial). main_var x.first) same) ∙ are.1)
 main_at v (s ∷ rows) (suc i) t are e = main_at (suc are.0) rows i t are.3 e
 
 -- which occurs in it
-pub occurs_at : (rows : List (Row Polynomial)) (i : ℕ) (t : Row Polynomial) → AreTriangularFrom 0 rows → slice_get rows i ≡ Some t → 1 ≤ degree_in (variable_or_zero (main_var t.first)) t.first
+pub occurs_at : (rows : List (Row Polynomial)) (i : ℕ) (t : Row Polynomial) → IsTriangularFrom 0 (first_entries rows) → slice_get rows i ≡ Some t → 1 ≤ degree_in (variable_or_zero (main_var t.first)) t.first
 occurs_at rows i t are e =
     let main = main_at 0 rows i t are e in
     subst (λ v. 1 ≤ degree_in v t.first) (sym (ap variable_or_zero main.1)) (degree_in_main_var main.0 t.first main.1)
 
 -- and is a variable
-pub variable_at : (p n : ℕ) (rows : List (Row Polynomial)) (i : ℕ) (t : Row Polynomial) → ArePolynomialRows p n rows → AreTriangularFrom 0 rows → slice_get rows i ≡ Some t → variable_or_zero (main_var t.first) < n
+pub variable_at : (p n : ℕ) (rows : List (Row Polynomial)) (i : ℕ) (t : Row Polynomial) → ArePolynomialRows p n rows → IsTriangularFrom 0 (first_entries rows) → slice_get rows i ≡ Some t → variable_or_zero (main_var t.first) < n
 variable_at p n rows i t canonical are e = go (variable_or_zero (main_var t.first)) (occurs_at rows i t are e)
   where
     go : (v : ℕ) → 1 ≤ degree_in v t.first → v < n

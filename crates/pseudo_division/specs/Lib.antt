@@ -1,3 +1,2 @@
 pub mod FieldOperations
-pub mod Turns
 pub mod Combinations

@@ -2,10 +2,9 @@ ghost use Rattle.std.specs.Prelude.{◌≡◌, ◌<◌, ◌≤◌, ◌↔◌, tr
 ghost use Rattle.polynomials.specs.Views.{degree_in};
 ghost use Rattle.division_rules.specs.PolynomialRows.{IsPolynomialRow};
 ghost use Rattle.division_rules.specs.Rows.{is_reduced_by};
-ghost use Rattle.division_rules.specs.Within.{pseudo_remainder_within, pseudo_remainder_by_within};
+ghost use Rattle.division_rules.specs.Within.{pseudo_turn_within, pseudo_remainder_within, pseudo_remainder_by_within};
 ghost use Rattle.pseudo_division.specs.Combinations.{IsCombinationWhere};
 ghost use Rattle.pseudo_division.specs.FieldOperations.{operations};
-ghost use Rattle.pseudo_division.specs.Turns.{turn_within};
 
 use crate::elimination::{eliminate, times_row};
 use crate::leads::lead;
@@ -102,7 +101,8 @@ fn turn(alloc: Global, w: &Work, f: &Row, g: &Row, v: usize) -> Result<Option<Ro
     requires right { IsPolynomialRow w.now.field VARS g.now }
     requires occurs { 1 ≤ degree_in v g.now.first }
     requires cofactors { length f.now.cofactors ≡ length g.now.cofactors }
-    ensures value { IfOk result (λ r. r ≡ turn_within w.now.field w.now.width v g.now f.now) }
+    ensures value { IfOk result (λ r.
+        r ≡ pseudo_turn_within (operations w.now.field) w.now.width v g.now f.now) }
     ensures over { IfOk result (λ r. IfSome r (IsPolynomialRow w.now.field VARS)) }
     ensures cofactors { IfOk result (λ r. IfSome r (λ h. length h.cofactors ≡ length f.now.cofactors)) }
 {

@@ -7,7 +7,7 @@ use Rattle.polynomials.proofs.Coefficients.{IsPolynomial-coefficient_in}
 use Rattle.division_rules.specs.Rows.{Row}
 use Rattle.division_rules.specs.Chains.{EachRow}
 use Rattle.division_rules.specs.PolynomialRows.{IsPolynomialRow}
-use Rattle.division_rules.specs.RemainderRows.{Rows, leads}
+use Rattle.division_rules.specs.RemainderRows.{LaterRows, leads}
 use Rattle.pseudo_division.specs.FieldOperations.{operations}
 use Rattle.subresultants.specs.Outcomes.{with_leads, ended, outcome_after}
 use Rattle.subresultants.specs.Shape.{EachRemainderRow, IfRows}
@@ -24,7 +24,7 @@ module _ (p v : ℕ) (g h : Row Polynomial) where
   leads_ended later None each = leads_canonical p v (h ∷ later) each.1
   leads_ended later (Some z) each = leads_canonical p v (h ∷ later) each.0.1
 
-  leads_after : (o : Option (Rows Polynomial)) → EachRemainderRow (IsPolynomialRow p VARS) (outcome_after p v (g ∷ h ∷ []) o) → IfRows (λ r. ArePolynomials p VARS r.leads) (outcome_after p v (g ∷ h ∷ []) o)
+  leads_after : (o : Option (LaterRows Polynomial)) → EachRemainderRow (IsPolynomialRow p VARS) (outcome_after p v (g ∷ h ∷ []) o) → IfRows (λ r. ArePolynomials p VARS r.leads) (outcome_after p v (g ∷ h ∷ []) o)
   leads_after None each = tt
   leads_after (Some rows) each = leads_ended rows.later rows.last each
 
@@ -32,14 +32,14 @@ module _ (p v : ℕ) (g h : Row Polynomial) where
   some_ended later None = λ e. cc
   some_ended later (Some z) = λ e. cc
 
-  some_after : (o : Option (Rows Polynomial)) → IfRows (λ r. r.leads ≢ []) (outcome_after p v (g ∷ h ∷ []) o)
+  some_after : (o : Option (LaterRows Polynomial)) → IfRows (λ r. r.leads ≢ []) (outcome_after p v (g ∷ h ∷ []) o)
   some_after None = tt
   some_after (Some rows) = some_ended rows.later rows.last
 
   -- the leads of an outcome are canonical
-  pub outcome_leads : (o : Option (Rows Polynomial)) (made : Remainders) → made ≡ outcome_after p v (g ∷ h ∷ []) o → EachRemainderRow (IsPolynomialRow p VARS) made → IfRows (λ r. ArePolynomials p VARS r.leads) made
+  pub outcome_leads : (o : Option (LaterRows Polynomial)) (made : Remainders) → made ≡ outcome_after p v (g ∷ h ∷ []) o → EachRemainderRow (IsPolynomialRow p VARS) made → IfRows (λ r. ArePolynomials p VARS r.leads) made
   outcome_leads o made is each = subst (IfRows (λ r. ArePolynomials p VARS r.leads)) (sym is) (leads_after o (subst (EachRemainderRow (IsPolynomialRow p VARS)) is each))
 
   -- and there is one
-  pub outcome_has_leads : (o : Option (Rows Polynomial)) (made : Remainders) → made ≡ outcome_after p v (g ∷ h ∷ []) o → IfRows (λ r. r.leads ≢ []) made
+  pub outcome_has_leads : (o : Option (LaterRows Polynomial)) (made : Remainders) → made ≡ outcome_after p v (g ∷ h ∷ []) o → IfRows (λ r. r.leads ≢ []) made
   outcome_has_leads o made is = subst (IfRows (λ r. r.leads ≢ [])) (sym is) (some_after o)

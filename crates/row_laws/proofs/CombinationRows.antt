@@ -8,8 +8,8 @@ use Rattle.polynomials.proofs.PolynomialRing.{CanonicalPolynomial, canonical_pat
 use Rattle.division_rules.specs.Chains.{EachRow, IfRow}
 use Rattle.division_rules.specs.Lists.{list_operations}
 use Rattle.division_rules.specs.PolynomialRows.{ArePolynomialRows}
-use Rattle.division_rules.specs.Rows.{Row, combined, elimination, sparse_remainder, pseudo_remainder, reduction}
-use Rattle.division_rules.specs.RemainderRows.{Rows, remainder_rows}
+use Rattle.division_rules.specs.Rows.{Row, combined, elimination, sparse_remainder, pseudo_remainder, reduction, first_entries}
+use Rattle.division_rules.specs.RemainderRows.{LaterRows, remainder_rows}
 use Rattle.division_rules.specs.Units.{IsCombinationOf, unit_rows}
 use Rattle.division_rules.proofs.CanonicalViews.{canonical_operations}
 use Rattle.division_rules.proofs.Down.{terms, terms_all, down, down_all, terms-combined}
@@ -18,7 +18,7 @@ use Rattle.division_rules.proofs.PolynomialSetting.{polynomial_setting}
 use Rattle.division_rules.proofs.RowsShape.{rows_combinations}
 use Rattle.division_rules.proofs.Settings.{ViewedRing}
 use Rattle.division_rules.proofs.Up.{up, up_all, up_rows, terms-up_all, down_canonical, length-up_all}
-use Rattle.row_laws.specs.Words.{first_entries, StartRemainderRows}
+use Rattle.row_laws.specs.Words.{StartRemainderRows}
 use Rattle.row_laws.specs.Combinations.{IsRowOver, AreRowsOver, CombinationsAreKept}
 use Rattle.row_laws.proofs.Lifts.{lifted-elimination, lifted-sparse_remainder, lifted-pseudo_remainder, lifted-reduction, lifted-remainder_rows}
 use Rattle.row_laws.proofs.Starts.{start_base, start_turn}
@@ -108,7 +108,7 @@ module _ (p n : ℕ) (prime : IsPrime p) where
     over-remainder_rows : (w v : ℕ) (chain : List (Row Polynomial)) (t c : Row Polynomial) → IsRowOver p n gs t → IsRowOver p n gs c → AreRowsOver p n gs chain → StartRemainderRows v (first_entries chain) t.first c.first → AreRowsOver p n gs (remainder_rows (list_operations p n) w v chain t c).later × IfRow (IsRowOver p n gs) (remainder_rows (list_operations p n) w v chain t c).last
     over-remainder_rows w v chain t c ht hc each start = subst (λ rows. AreRowsOver p n gs rows.later × IfRow (IsRowOver p n gs) rows.last) (lifted-remainder_rows p n prime.many chain (canonical_rows chain each) w v t c ht.canonical hc.canonical) (EachRow-down p n prime.many (IsRowOver p n gs) (IsCombinationOf (canonical_operations p n prime.many) generators) rows.later down_combination over.0, IfRow-down p n prime.many (IsRowOver p n gs) (IsCombinationOf (canonical_operations p n prime.many) generators) rows.last down_combination over.1)
       where
-        rows : Rows (CanonicalPolynomial p n)
+        rows : LaterRows (CanonicalPolynomial p n)
         rows = remainder_rows (canonical_operations p n prime.many) w v (rows_up chain each) (row_up t ht) (row_up c hc)
 
         over : EachRow (IsCombinationOf (canonical_operations p n prime.many) generators) rows.later × IfRow (IsCombinationOf (canonical_operations p n prime.many) generators) rows.last

@@ -7,7 +7,7 @@ use Rattle.zero_sets.specs.Domains.{Tables, value_at}
 use Rattle.zero_sets.specs.ZeroSets.{AreNonZero}
 use Rattle.division_rules.specs.Lists.{list_operations}
 use Rattle.division_rules.specs.Rows.{Row}
-use Rattle.division_rules.specs.RemainderRows.{Rows, remainder_rows, leads}
+use Rattle.division_rules.specs.RemainderRows.{LaterRows, remainder_rows, leads}
 use Rattle.division_rules.specs.Turns.{DegreesFall, last_row}
 use Rattle.row_laws.specs.Vanishing.{AreZeroByLeads, EndInCommonZero, RemainderRowsEndInCommonZero}
 use Rattle.row_laws.proofs.FallingRows.{remainder_rows_fall}
@@ -36,7 +36,7 @@ module _ (p n v : ℕ) (r : Tables) (xs : List ℕ) where
   last_degree c (f ∷ later) falls = last_degree f later falls.2
 
   -- rows that vanish unless leads do, where none does
-  ends_in_common_zero : (c : Row Polynomial) (rows : Rows Polynomial) → value_at r xs c.first ≡ r.nil → DegreesFall (list_operations p n) v c rows.later rows.last → AreZeroByLeads p n v r xs c rows.later → AreNonZero r xs (leads (list_operations p n) v (c ∷ rows.later)) → EndInCommonZero r xs c rows
+  ends_in_common_zero : (c : Row Polynomial) (rows : LaterRows Polynomial) → value_at r xs c.first ≡ r.nil → DegreesFall (list_operations p n) v c rows.later rows.last → AreZeroByLeads p n v r xs c rows.later → AreNonZero r xs (leads (list_operations p n) v (c ∷ rows.later)) → EndInCommonZero r xs c rows
   ends_in_common_zero c rows zero_c falls vanish others = go rows.last refl falls
     where
       null : value_at r xs (last_row c rows.later).first ≡ r.nil

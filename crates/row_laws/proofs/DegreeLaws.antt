@@ -2,7 +2,7 @@
 use Rattle.std.proofs.Common.{◌≡◌, ◌≢◌, ℕ, suc, ◌<◌, ◌≤◌, List, [], ◌∷◌, Some, sym, ap, ◌∙◌, subst, arith}
 use Rattle.polynomials.specs.Primes.{IsPrime}
 use Rattle.polynomials.specs.Polynomials.{Polynomial}
-use Rattle.polynomials.specs.Views.{degree_in, main_var, IsFreeOf}
+use Rattle.polynomials.specs.Views.{degree_in, main_var, IsFreeOf, AreFreeOf}
 use Rattle.polynomials.proofs.ExponentsBelow.{ExponentsBelow-one, degree_in-from_ExponentsBelow, degree_in-less}
 use Rattle.polynomials.proofs.MainVariables.{degree_in_main_var}
 use Rattle.polynomials.proofs.PolynomialRing.{CanonicalPolynomial}
@@ -10,7 +10,7 @@ use Rattle.zero_sets.specs.ZeroSets.{IsTriangularFrom}
 use Rattle.division_rules.specs.Chains.{EachRow, IsFree}
 use Rattle.division_rules.specs.Lists.{list_operations, variable_or_zero}
 use Rattle.division_rules.specs.PolynomialRows.{IsPolynomialRow, ArePolynomialRows}
-use Rattle.division_rules.specs.Rows.{Row, plain, plains, elimination, sparse_remainder, turns, pseudo_remainder}
+use Rattle.division_rules.specs.Rows.{Row, plain, plains, elimination, sparse_remainder, turns, pseudo_remainder, first_entries}
 use Rattle.division_rules.proofs.Bounds.{eliminated-under}
 use Rattle.division_rules.proofs.CanonicalViews.{canonical_operations}
 use Rattle.division_rules.proofs.Down.{down}
@@ -19,8 +19,7 @@ use Rattle.division_rules.proofs.RowsFree.{pseudo_remainder-other}
 use Rattle.division_rules.proofs.Settings.{ViewedRing}
 use Rattle.division_rules.proofs.Steps.{sparse_remainder-under, pseudo_remainder-under, elimination-other, sparse_remainder_by-keeps, reduction-other}
 use Rattle.division_rules.proofs.Up.{up, up_rows, plains_canonical}
-use Rattle.row_laws.specs.Words.{first_entries}
-use Rattle.row_laws.specs.Degrees.{AreFreeOf, EliminationsLowerDegree, HaveLessDegree, RemaindersHaveLessDegree, KeepDegrees, DivisionsKeepDegrees, ReductionsKeepDegrees}
+use Rattle.row_laws.specs.Degrees.{EliminationsLowerDegree, HaveLessDegree, RemaindersHaveLessDegree, KeepDegrees, DivisionsKeepDegrees, ReductionsKeepDegrees}
 use Rattle.row_laws.proofs.Lifts.{lifted-elimination, lifted-sparse_remainder, lifted-pseudo_remainder}
 use Rattle.row_laws.proofs.ReductionValues.{first_entries-plains, chain_rows, reduction_is}
 

@@ -5,9 +5,9 @@ use Rattle.std.proofs.lemmas.Option.{same_Some}
 use Rattle.polynomials.specs.Polynomials.{Polynomial, term, scaled}
 use Rattle.polynomials.specs.Views.{degree_in}
 use Rattle.zero_sets.proofs.PrimeFields.{residue_tables}
-use Rattle.division_rules.specs.Rows.{Row, plain}
+use Rattle.division_rules.specs.Rows.{Row, plain, first_entries}
 use Rattle.division_rules.proofs.Factors.{Contains-first}
-use Rattle.row_laws.specs.Words.{first_entries, reduction_of, StartRemainderRows}
+use Rattle.row_laws.specs.Words.{reduction_of, StartRemainderRows}
 use Rattle.row_laws.specs.Combinations.{IsRowOver}
 use Rattle.row_laws.specs.Values.{IsMultipleByInitials}
 use Rattle.row_laws.specs.Degrees.{IsRowFreeOf}

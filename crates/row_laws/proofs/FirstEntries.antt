@@ -2,9 +2,8 @@
 use Rattle.std.proofs.Common.{◌≡◌, List, [], ◌∷◌, refl, ap, ◌∙◌}
 use Rattle.polynomials.specs.Polynomials.{Polynomial}
 use Rattle.division_rules.specs.Lists.{list_operations}
-use Rattle.division_rules.specs.Rows.{Row, plain, plains, reduction}
+use Rattle.division_rules.specs.Rows.{Row, plain, plains, reduction, first_entries}
 use Rattle.division_rules.proofs.FirstEntries.{firsts_alone, first-sparse_remainder, first-pseudo_remainder, first-reduction}
-use Rattle.row_laws.specs.Words.{first_entries}
 use Rattle.row_laws.specs.FirstEntries.{FirstEntriesStandAlone}
 
 -- rows without cofactors are their first entries as rows

@@ -7,13 +7,12 @@ use Rattle.polynomials.proofs.PolynomialRing.{CanonicalPolynomial}
 use Rattle.division_rules.specs.Lists.{list_operations}
 use Rattle.division_rules.specs.Points.{product_of_all, IsInitial, AreInitials}
 use Rattle.division_rules.specs.PolynomialRows.{ArePolynomialRows}
-use Rattle.division_rules.specs.Rows.{Row}
+use Rattle.division_rules.specs.Rows.{Row, first_entries}
 use Rattle.division_rules.proofs.CanonicalViews.{canonical_operations}
 use Rattle.division_rules.proofs.ListWords.{list_initial}
 use Rattle.division_rules.proofs.Down.{terms_all}
 use Rattle.division_rules.proofs.Up.{up_rows}
 use Rattle.division_rules.proofs.Factors.{Contains-later}
-use Rattle.row_laws.specs.Words.{first_entries}
 
 module _ (p n : ℕ) (many : 1 < p) where
   -- products

@@ -18,3 +18,5 @@ pub mod ComposedRows
 pub mod ScaledDivisors
 pub mod MonicChains
 pub mod FirstEntries
+pub mod Identities
+pub mod Compositions

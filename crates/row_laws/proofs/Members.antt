@@ -1,9 +1,10 @@
 -- Members of triangular sets, and those below them.
-use Rattle.std.proofs.Common.{◌≡◌, ◌≢◌, ℕ, suc, ◌<◌, ◌≤◌, Bool, true, false, List, [], ◌∷◌, ◌++◌, map, Some, refl, sym, ap, ◌∙◌, subst, arith}
-use Rattle.std.proofs.lemmas.Bool.{eqb-true, lt-ltb, le-ltb}
+use Rattle.std.proofs.Common.{◌≡◌, ◌≢◌, ℕ, suc, ◌<◌, ◌≤◌, Bool, true, false, List, [], ◌∷◌, ◌++◌, map, Option, Some, None, refl, sym, ap, ◌∙◌, subst, arith}
+use Rattle.std.proofs.lemmas.Bool.{eqb-true, ltb-true, ltb-false, lt-ltb, le-ltb}
 use Rattle.std.proofs.lemmas.Option.{same_Some}
 use Rattle.polynomials.specs.Polynomials.{Polynomial}
 use Rattle.polynomials.specs.Views.{main_var, lead_in_main, initial_of}
+use Rattle.polynomials.proofs.MainVariables.{degree_in_main_var}
 use Rattle.zero_sets.specs.Domains.{Tables, value_at}
 use Rattle.zero_sets.specs.ZeroSets.{InZeroSet, AreNonZero, IsTriangularFrom, is_variable, member_in, is_variable_below, members_below}
 use Rattle.zero_sets.proofs.CertificateLemmas.{InZeroSet-members_below}
@@ -11,10 +12,10 @@ use Rattle.zero_sets.proofs.TriangularSets.{below_triangular}
 use Rattle.division_rules.specs.Rows.{plain}
 use Rattle.division_rules.specs.Triangular.{HasLessDegree}
 use Rattle.row_laws.specs.Words.{AreBelow, IsReducedBy}
-use Rattle.row_laws.specs.Members.{IsMember, MembersArePlaced, MembersStartRemainderRows, PointsAtMembers}
+use Rattle.row_laws.specs.Members.{IsMember, MembersArePlaced, MembersAreSplit, LacksMainFrom, ReducedByWhole, MembersStartRemainderRows, PointsAtMembers}
 
 -- none of them is below v
-none_below : (v u : ℕ) (chain : List Polynomial) → v ≤ u → IsTriangularFrom u chain → members_below v chain ≡ []
+pub none_below : (v u : ℕ) (chain : List Polynomial) → v ≤ u → IsTriangularFrom u chain → members_below v chain ≡ []
 none_below v u [] less h = refl
 none_below v u (t ∷ chain) less (m, main, up_to, later) = ap (λ b. elim b [ true ↦ t ∷ members_below v chain | false ↦ members_below v chain ]) (ap (is_variable_below v) main ∙ le-ltb m v (omega (arith, less, up_to))) ∙ none_below v (suc m) chain (omega (arith, less, up_to)) later
 
@@ -100,7 +101,37 @@ module _ (v : ℕ) where
         go true found further = subst (λ x. (value_at r xs x ≡ r.nil) × (value_at r xs (initial_of x) ≢ r.nil)) (same_Some s t found) (zeros.0, others.0)
         go false found further = further found
 
+-- a main variable below u is below v
+below_more : (u v : ℕ) (o : Option ℕ) → u ≤ v → is_variable_below u o ≡ true → is_variable_below v o ≡ true
+below_more u v None up e = cc
+below_more u v (Some x) up e = let less = ltb-true x u e in lt-ltb x v (omega (arith, less, up))
+
+-- the members below v of some below u and others
+below_append : (u v : ℕ) (fs gs : List Polynomial) → u ≤ v → AreBelow u fs → members_below v (fs ++ gs) ≡ fs ++ members_below v gs
+below_append u v [] gs up below = refl
+below_append u v (f ∷ fs) gs up below = ap (λ b. elim b [ true ↦ f ∷ members_below v (fs ++ gs) | false ↦ members_below v (fs ++ gs) ]) (below_more u v (main_var f) up below.0) ∙ ap (λ hs. f ∷ hs) (below_append u v fs gs up below.1)
+
 -- the laws
+pub members_are_split : MembersAreSplit
+members_are_split u v chain t less triangular there =
+    let place : IsMember u chain t = placed u 0 chain t triangular there in
+    (members_below v place.more, ap (members_below v) place.parts ∙ below_append u v (members_below u chain) (t ∷ place.more) (omega (arith, less)) (members_are_below u chain) ∙ ap (λ b. members_below u chain ++ elim b [ true ↦ t ∷ members_below v place.more | false ↦ members_below v place.more ]) (ap (is_variable_below v) place.main ∙ lt-ltb u v less))
+
+pub reduced_by_whole : ReducedByWhole
+reduced_by_whole u [] f reduced lacks = tt
+reduced_by_whole u (t ∷ chain) f reduced lacks = go (is_variable_below u (main_var t)) refl reduced (λ by. reduced_by_whole u chain f by lacks.1)
+  where
+    go : (b : Bool) → is_variable_below u (main_var t) ≡ b → IsReducedBy f (elim b [ true ↦ t ∷ members_below u chain | false ↦ members_below u chain ]) → (IsReducedBy f (members_below u chain) → IsReducedBy f chain) → IsReducedBy f (t ∷ chain)
+    go true e by rest = (by.0, rest by.1)
+    go false e by rest = (
+      λ x main.
+          let from : u ≤ x = ltb-false x u (sym (ap (is_variable_below u) main) ∙ e) in
+          let none = lacks.0 x main from in
+          let some = degree_in_main_var x t main in
+          omega (arith, none, some),
+      rest by,
+    )
+
 pub members_are_placed : MembersArePlaced
 members_are_placed v chain t triangular there = placed v 0 chain t triangular there
 

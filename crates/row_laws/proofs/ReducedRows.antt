@@ -5,12 +5,12 @@ use Rattle.polynomials.specs.Polynomials.{Polynomial, IsPolynomial, ArePolynomia
 use Rattle.zero_sets.specs.ZeroSets.{IsTriangularFrom}
 use Rattle.division_rules.specs.Lists.{list_operations}
 use Rattle.division_rules.specs.PolynomialRows.{IsPolynomialRow, ArePolynomialRows}
-use Rattle.division_rules.specs.Rows.{Row, plain, plains, reduction}
+use Rattle.division_rules.specs.Rows.{Row, plain, plains, reduction, first_entries}
 use Rattle.division_rules.proofs.Down.{down}
 use Rattle.division_rules.proofs.PolynomialSetting.{polynomial_setting}
 use Rattle.division_rules.proofs.Reduced.{reduction-same}
 use Rattle.division_rules.proofs.Up.{up, up_rows, down-up, plains_canonical}
-use Rattle.row_laws.specs.Words.{first_entries, IsReducedBy}
+use Rattle.row_laws.specs.Words.{IsReducedBy}
 use Rattle.row_laws.specs.Degrees.{ReducedStaysSame, ReducedByMore}
 use Rattle.row_laws.proofs.Lifts.{lifted-reduction}
 use Rattle.row_laws.proofs.ReductionValues.{first_entries-plains}

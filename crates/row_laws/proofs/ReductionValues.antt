@@ -9,7 +9,7 @@ use Rattle.zero_sets.specs.ZeroSets.{InZeroSet, AreNonZero}
 use Rattle.zero_sets.proofs.TableRings.{Element}
 use Rattle.division_rules.specs.Lists.{list_operations}
 use Rattle.division_rules.specs.Units.{unit_rows}
-use Rattle.division_rules.specs.Rows.{Row, plain, plains, reduction}
+use Rattle.division_rules.specs.Rows.{Row, plain, plains, reduction, first_entries}
 use Rattle.division_rules.proofs.CanonicalViews.{canonical_operations}
 use Rattle.division_rules.proofs.Down.{terms_all}
 use Rattle.division_rules.proofs.Points.{IsScaled, val-reduction, zero-reduction, zero_iff_reduction_zero}
@@ -17,7 +17,7 @@ use Rattle.division_rules.proofs.PolynomialSetting.{polynomial_setting}
 use Rattle.division_rules.proofs.Settings.{ViewedRing, Evaluation, IsZero, AllZero, InitialsNotZero}
 use Rattle.division_rules.specs.Points.{product_of_all}
 use Rattle.division_rules.proofs.Up.{up, up_rows, plains_canonical}
-use Rattle.row_laws.specs.Words.{first_entries, reduction_of}
+use Rattle.row_laws.specs.Words.{reduction_of}
 use Rattle.row_laws.specs.Values.{IsMultipleByInitials, ReductionsMultiplyValues, ReductionsKeepZeros, ReductionsHaveSameZeros, ReducedToZeroVanishes}
 use Rattle.row_laws.proofs.Lifts.{lifted-reduction}
 use Rattle.row_laws.proofs.TablePoints.{table_evaluation, table_number, table_zero, zero_table, chain_zero, chain_initials}

@@ -9,8 +9,7 @@ use Rattle.zero_sets.specs.ZeroSets.{IsTriangularFrom, is_variable_below}
 use Rattle.division_rules.specs.Chains.{EachRow, IsReduced, IsFree}
 use Rattle.division_rules.specs.Lists.{variable_or_zero}
 use Rattle.division_rules.specs.PolynomialRows.{IsPolynomialRow, ArePolynomialRows}
-use Rattle.division_rules.specs.Rows.{Row}
-use Rattle.division_rules.specs.Triangular.{AreTriangularFrom}
+use Rattle.division_rules.specs.Rows.{Row, first_entries}
 use Rattle.division_rules.specs.Turns.{IsBase, IsTurn}
 use Rattle.division_rules.proofs.Settings.{ViewedRing}
 use Rattle.division_rules.proofs.Bounds.{under_degree}
@@ -19,12 +18,7 @@ use Rattle.division_rules.proofs.PolynomialSetting.{polynomial_setting}
 use Rattle.division_rules.proofs.TriangularReductions.{chain_from_triangular}
 use Rattle.division_rules.proofs.ChainParts.{first_turn}
 use Rattle.division_rules.proofs.Up.{up, up_rows, down-up_rows}
-use Rattle.row_laws.specs.Words.{first_entries, AreBelow, IsReducedBy, StartRemainderRows}
-
--- rows are triangular where their first entries are
-pub triangular_rows : (v : ℕ) (chain : List (Row Polynomial)) → IsTriangularFrom v (first_entries chain) → AreTriangularFrom v chain
-triangular_rows v [] h = tt
-triangular_rows v (t ∷ chain) (u, main, up_to, later) = (u, main, up_to, triangular_rows (suc u) chain later)
+use Rattle.row_laws.specs.Words.{AreBelow, IsReducedBy, StartRemainderRows}
 
 -- a lesser main variable
 pub variable_below : (v : ℕ) (o : Option ℕ) → is_variable_below v o ≡ true → variable_or_zero o < v
@@ -49,7 +43,7 @@ module _ (p n : ℕ) (prime : IsPrime p) where
   -- a triangular set of rows is a chain below v
   pub chain_base : (v : ℕ) (chain : List (Row Polynomial)) (are : ArePolynomialRows p n chain) → IsTriangularFrom 0 (first_entries chain) → AreBelow v (first_entries chain) → IsBase P.ring P.views P.laws v (up_rows p n prime.many chain are)
   chain_base v chain are triangular below = record {
-    increasing = chain_from_triangular p n prime 0 (up_rows p n prime.many chain are) (subst (AreTriangularFrom 0) (sym (down-up_rows p n prime.many chain are)) (triangular_rows 0 chain triangular));
+    increasing = chain_from_triangular p n prime 0 (up_rows p n prime.many chain are) (subst (λ rows. IsTriangularFrom 0 (first_entries rows)) (sym (down-up_rows p n prime.many chain are)) triangular);
     apart = below_apart v chain are below;
     free = below_free v chain are below;
   }

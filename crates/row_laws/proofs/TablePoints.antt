@@ -8,12 +8,11 @@ use Rattle.zero_sets.specs.Domains.{Tables, IsFiniteDomain, IsPoint, value_at}
 use Rattle.zero_sets.specs.ZeroSets.{InZeroSet, AreNonZero}
 use Rattle.zero_sets.proofs.TableRings.{Element, element_path, table_ring, has_characteristic, is_integral, coordinates, value-table}
 use Rattle.division_rules.specs.PolynomialRows.{ArePolynomialRows}
-use Rattle.division_rules.specs.Rows.{Row}
+use Rattle.division_rules.specs.Rows.{Row, first_entries}
 use Rattle.division_rules.proofs.Settings.{ViewedRing, Evaluation, IsZero, NotZero, AllZero, InitialsNotZero}
 use Rattle.division_rules.proofs.ListWords.{list_initial}
 use Rattle.division_rules.proofs.PolynomialSetting.{polynomial_setting, polynomial_evaluation}
 use Rattle.division_rules.proofs.Up.{up_rows}
-use Rattle.row_laws.specs.Words.{first_entries}
 
 module _ (p n : ℕ) (prime : IsPrime p) (r : Tables) (domain : IsFiniteDomain p r) (xs : List ℕ) (point : IsPoint r xs) where
   abbrev P : ViewedRing (CanonicalPolynomial p n)

@@ -10,7 +10,7 @@ use Rattle.zero_sets.proofs.TableRings.{Element}
 use Rattle.division_rules.specs.Operations.{lead}
 use Rattle.division_rules.specs.Points.{Vanish}
 use Rattle.division_rules.specs.Rows.{Row}
-use Rattle.division_rules.specs.RemainderRows.{Rows, remainder_rows}
+use Rattle.division_rules.specs.RemainderRows.{LaterRows, remainder_rows}
 use Rattle.division_rules.proofs.CanonicalViews.{canonical_operations}
 use Rattle.division_rules.proofs.CombinationPoints.{combination_zero}
 use Rattle.division_rules.proofs.Down.{down, down_all}
@@ -48,7 +48,7 @@ module _ (p n : ℕ) (prime : IsPrime p) (r : Tables) (domain : IsFiniteDomain p
 pub remainder_rows_vanish : RemainderRowsVanish
 remainder_rows_vanish p n w v r xs chain t c prime domain point (it, (ic, are)) start (zt, (zc, zeros)) = subst (λ rows. AreZeroByLeads p n v r xs c rows.later) (lifted-remainder_rows p n prime.many chain are w v t c it ic) (subst (λ g. AreZeroByLeads p n v r xs g (down_all p n prime.many rows.later)) (down-up p n prime.many c ic) (vanish_at p n prime r domain xs point v (Unit {0}) (up p n prime.many c ic) rows.later vanish tt))
   where
-    rows : Rows (CanonicalPolynomial p n)
+    rows : LaterRows (CanonicalPolynomial p n)
     rows = remainder_rows (canonical_operations p n prime.many) w v (up_rows p n prime.many chain are) (up p n prime.many t it) (up p n prime.many c ic)
 
     E : Evaluation (polynomial_setting p n prime) (Element r)

@@ -5,10 +5,10 @@ use Rattle.polynomials.specs.Polynomials.{Polynomial, IsPolynomial, ArePolynomia
 use Rattle.division_rules.specs.Chains.{EachRow, IfRow}
 use Rattle.division_rules.specs.Lists.{list_operations}
 use Rattle.division_rules.specs.PolynomialRows.{IsPolynomialRow}
-use Rattle.division_rules.specs.Rows.{Row, combined, elimination, sparse_remainder, pseudo_remainder, reduction}
+use Rattle.division_rules.specs.Rows.{Row, combined, elimination, sparse_remainder, pseudo_remainder, reduction, first_entries}
 use Rattle.division_rules.specs.RemainderRows.{remainder_rows}
 use Rattle.division_rules.specs.Units.{IsCombinationOf, unit_rows, entrywise_sum}
-use Rattle.row_laws.specs.Words.{first_entries, StartRemainderRows}
+use Rattle.row_laws.specs.Words.{StartRemainderRows}
 
 -- a row of canonical polynomials that is the combination of its cofactors and the generators
 pub record IsRowOver (p n : ℕ) (gs : List Polynomial) (f : Row Polynomial) : Type 0 where

@@ -2,20 +2,15 @@
 use Rattle.std.specs.Prelude.{◌≡◌, ◌≢◌, ℕ, ◌<◌, ◌≤◌, List, [], ◌∷◌, ◌++◌}
 use Rattle.polynomials.specs.Primes.{IsPrime}
 use Rattle.polynomials.specs.Polynomials.{Polynomial, IsPolynomial, ArePolynomials}
-use Rattle.polynomials.specs.Views.{degree_in, IsFreeOf}
+use Rattle.polynomials.specs.Views.{degree_in, IsFreeOf, AreFreeOf}
 use Rattle.zero_sets.specs.ZeroSets.{IsTriangular}
 use Rattle.division_rules.specs.Chains.{EachRow, IfRow}
 use Rattle.division_rules.specs.Lists.{list_operations}
 use Rattle.division_rules.specs.PolynomialRows.{IsPolynomialRow, ArePolynomialRows}
-use Rattle.division_rules.specs.Rows.{Row, elimination, sparse_remainder, pseudo_remainder, reduction}
-use Rattle.division_rules.specs.RemainderRows.{Rows, remainder_rows}
+use Rattle.division_rules.specs.Rows.{Row, elimination, sparse_remainder, pseudo_remainder, reduction, first_entries}
+use Rattle.division_rules.specs.RemainderRows.{LaterRows, remainder_rows}
 use Rattle.division_rules.specs.Turns.{DegreesFall}
-use Rattle.row_laws.specs.Words.{first_entries, reduction_of, IsReducedBy, StartRemainderRows}
-
--- x occurs in none of them
-abbrev pub AreFreeOf : ℕ → List Polynomial → Type 0
-AreFreeOf x [] = Unit {0}
-AreFreeOf x (f ∷ fs) = IsFreeOf x f × AreFreeOf x fs
+use Rattle.row_laws.specs.Words.{reduction_of, IsReducedBy, StartRemainderRows}
 
 -- x occurs neither in the first entry nor in a cofactor
 abbrev pub IsRowFreeOf : ℕ → Row Polynomial → Type 0
@@ -48,6 +43,16 @@ DivisionsKeepDegrees = (p n v x : ℕ) (f g : Row Polynomial) → IsPrime p → 
 abbrev pub ReductionsKeepDegrees : Type 0
 ReductionsKeepDegrees = (p n x : ℕ) (chain : List Polynomial) (f : Polynomial) → IsPrime p → ArePolynomials p n chain → IsPolynomial p n f → IsTriangular chain → AreFreeOf x chain → degree_in x (reduction_of p n chain f) ≤ degree_in x f
 
+-- nor does a variable come into the reduction of a row that occurs in no entry of the row and the chain
+abbrev pub ReductionsAreFree : Type 0
+ReductionsAreFree =
+    (p n x : ℕ) (chain : List (Row Polynomial)) (f : Row Polynomial)
+    → IsPrime p
+    → ArePolynomialRows p n (f ∷ chain)
+    → IsTriangular (first_entries chain)
+    → EachRow (IsRowFreeOf x) (f ∷ chain)
+    → IsRowFreeOf x (reduction (list_operations p n) chain f)
+
 -- what a triangular set reduces already is its own reduction
 abbrev pub ReducedStaysSame : Type 0
 ReducedStaysSame = (p n : ℕ) (chain : List (Row Polynomial)) (f : Row Polynomial) → IsPrime p → ArePolynomialRows p n (f ∷ chain) → IsTriangular (first_entries chain) → IsReducedBy f.first (first_entries chain) → reduction (list_operations p n) chain f ≡ f
@@ -58,7 +63,7 @@ ReducedByMore = (p n : ℕ) (chain more : List Polynomial) (f : Polynomial) → 
 
 -- of the rows after c none is 0, each is reduced by the chain, and the degrees in v fall to that of a
 -- row that is free of v, or until a zero row follows
-pub record HaveFallingDegrees (p n v : ℕ) (chain : List Polynomial) (c : Row Polynomial) (rows : Rows Polynomial) : Type 0 where
+pub record HaveFallingDegrees (p n v : ℕ) (chain : List Polynomial) (c : Row Polynomial) (rows : LaterRows Polynomial) : Type 0 where
   pub nonzero : EachRow (λ h. h.first ≢ []) rows.later
   pub reduced : EachRow (λ h. IsReducedBy h.first chain) rows.later
   pub falls : DegreesFall (list_operations p n) v c rows.later rows.last

@@ -2,8 +2,8 @@
 use Rattle.std.specs.Prelude.{◌≡◌, ℕ, List}
 use Rattle.polynomials.specs.Polynomials.{Polynomial}
 use Rattle.division_rules.specs.Lists.{list_operations}
-use Rattle.division_rules.specs.Rows.{Row, plain, sparse_remainder, pseudo_remainder, reduction}
-use Rattle.row_laws.specs.Words.{first_entries, reduction_of}
+use Rattle.division_rules.specs.Rows.{Row, plain, sparse_remainder, pseudo_remainder, reduction, first_entries}
+use Rattle.row_laws.specs.Words.{reduction_of}
 
 -- remainders and reductions of rows have the first entries that those of their first entries have
 pub record LookAtFirstEntries (p n : ℕ) : Type 0 where

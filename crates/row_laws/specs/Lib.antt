@@ -6,3 +6,5 @@ pub mod Degrees
 pub mod Scaling
 pub mod Members
 pub mod FirstEntries
+pub mod Identities
+pub mod Compositions

@@ -1,7 +1,8 @@
 -- The polynomial of a triangular set with a given main variable, and those below it.
-use Rattle.std.specs.Prelude.{◌≡◌, ◌≢◌, ℕ, ◌≤◌, List, ◌∷◌, ◌++◌, Some}
+use Rattle.std.specs.Prelude.{◌≡◌, ◌≢◌, ℕ, ◌<◌, ◌≤◌, List, ◌∷◌, ◌++◌, Some}
+use Rattle.std.specs.List.{AllByRecursion}
 use Rattle.polynomials.specs.Polynomials.{Polynomial}
-use Rattle.polynomials.specs.Views.{degree_in, lead_in, main_var}
+use Rattle.polynomials.specs.Views.{degree_in, lead_in, main_var, IsFreeOf}
 use Rattle.zero_sets.specs.Domains.{Tables, value_at}
 use Rattle.zero_sets.specs.ZeroSets.{InQuasiComponent, IsTriangular, member_in, members_below}
 use Rattle.row_laws.specs.Words.{IsReducedBy, StartRemainderRows}
@@ -15,6 +16,29 @@ pub record IsMember (v : ℕ) (chain : List Polynomial) (t : Polynomial) : Type 
 -- so is the polynomial that is found for v
 abbrev pub MembersArePlaced : Type 0
 MembersArePlaced = (v : ℕ) (chain : List Polynomial) (t : Polynomial) → IsTriangular chain → member_in v chain ≡ Some t → IsMember v chain t
+
+-- those below v, where u < v is a main variable: those below u, the one for u, and more
+abbrev pub MembersAreSplit : Type 0
+MembersAreSplit =
+    (u v : ℕ) (chain : List Polynomial) (t : Polynomial)
+    → u < v
+    → IsTriangular chain
+    → member_in u chain ≡ Some t
+    → (more : List Polynomial)
+    × (members_below v chain ≡ members_below u chain ++ t ∷ more)
+
+-- no main variable of the chain from u on occurs in f
+abbrev pub LacksMainFrom : ℕ → Polynomial → List Polynomial → Type 0
+LacksMainFrom u f chain =
+    AllByRecursion (λ t. (x : ℕ) → main_var t ≡ Some x → u ≤ x → IsFreeOf x f) chain
+
+-- what those below u reduce, and lacks the main variables from u on, is reduced by the whole set
+abbrev pub ReducedByWhole : Type 0
+ReducedByWhole =
+    (u : ℕ) (chain : List Polynomial) (f : Polynomial)
+    → IsReducedBy f (members_below u chain)
+    → LacksMainFrom u f chain
+    → IsReducedBy f chain
 
 -- below it remainder rows start with it and each polynomial that is reduced by the set and has v
 abbrev pub MembersStartRemainderRows : Type 0

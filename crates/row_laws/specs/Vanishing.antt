@@ -6,10 +6,10 @@ use Rattle.zero_sets.specs.Domains.{Tables, IsFiniteDomain, IsPoint, value_at}
 use Rattle.zero_sets.specs.ZeroSets.{InZeroSet, AreNonZero}
 use Rattle.division_rules.specs.Lists.{list_operations}
 use Rattle.division_rules.specs.PolynomialRows.{ArePolynomialRows}
-use Rattle.division_rules.specs.Rows.{Row}
-use Rattle.division_rules.specs.RemainderRows.{Rows, remainder_rows, leads}
+use Rattle.division_rules.specs.Rows.{Row, first_entries}
+use Rattle.division_rules.specs.RemainderRows.{LaterRows, remainder_rows, leads}
 use Rattle.division_rules.specs.Turns.{last_row}
-use Rattle.row_laws.specs.Words.{first_entries, StartRemainderRows}
+use Rattle.row_laws.specs.Words.{StartRemainderRows}
 
 -- of the rows after c, the one at place i (from 0) is zero at the point where none of the first i
 -- leads of c and these rows is: no lead is asked of that row, nor of the row before it
@@ -21,7 +21,7 @@ abbrev pub RemainderRowsVanish : Type 0
 RemainderRowsVanish = (p n w v : ℕ) (r : Tables) (xs : List ℕ) (chain : List (Row Polynomial)) (t c : Row Polynomial) → IsPrime p → IsFiniteDomain p r → IsPoint r xs → ArePolynomialRows p n (t ∷ c ∷ chain) → StartRemainderRows v (first_entries chain) t.first c.first → InZeroSet r xs (first_entries (t ∷ c ∷ chain)) → AreZeroByLeads p n v r xs c (remainder_rows (list_operations p n) w v chain t c).later
 
 -- the rows after c end with a zero row, and the row before it is zero at the point
-pub record EndInCommonZero (r : Tables) (xs : List ℕ) (c : Row Polynomial) (rows : Rows Polynomial) : Type 0 where
+pub record EndInCommonZero (r : Tables) (xs : List ℕ) (c : Row Polynomial) (rows : LaterRows Polynomial) : Type 0 where
   pub zero_row : Row Polynomial
   pub last : rows.last ≡ Some zero_row
   pub zero : value_at r xs (last_row c rows.later).first ≡ r.nil

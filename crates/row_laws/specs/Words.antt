@@ -5,13 +5,13 @@ use Rattle.polynomials.specs.Views.{degree_in, main_var}
 use Rattle.zero_sets.specs.ZeroSets.{IsTriangular, is_variable_below}
 use Rattle.division_rules.specs.Chains.{EachRow}
 use Rattle.division_rules.specs.Lists.{list_operations}
-use Rattle.division_rules.specs.Rows.{Row, plain, plains, reduction}
+use Rattle.division_rules.specs.Rows.{plain, plains, pseudo_remainder, reduction}
 use Rattle.division_rules.specs.Triangular.{HasLessDegree}
 
--- the first entries of rows
-abbrev pub first_entries : List (Row Polynomial) → List Polynomial
-first_entries [] = []
-first_entries (f ∷ rows) = f.first ∷ first_entries rows
+-- the pseudo-remainder of f by g in v
+abbrev pub pseudo_remainder_of : ℕ → ℕ → ℕ → Polynomial → Polynomial → Polynomial
+pseudo_remainder_of p n v f g =
+    (pseudo_remainder (list_operations p n) v (plain f) (plain g)).first
 
 -- the reduction of f by a list of polynomials
 abbrev pub reduction_of : ℕ → ℕ → List Polynomial → Polynomial → Polynomial

@@ -1,8 +1,10 @@
 ghost use Rattle.row_laws.specs.Combinations.{CombinationsAreKept, ComposedRowsAreCombinations};
+ghost use Rattle.row_laws.specs.Compositions.{CompositionsAreRows};
+ghost use Rattle.row_laws.specs.Identities.{PseudoRemaindersDivide, ReductionsDivide};
 ghost use Rattle.row_laws.specs.Values.{DivisionsMultiplyValues, ReductionsMultiplyValues, ReductionsKeepZeros, ReductionsHaveSameZeros, ReducedToZeroVanishes, CombinationsKeepZeros};
-ghost use Rattle.row_laws.specs.Degrees.{EliminationsLowerDegree, RemaindersHaveLessDegree, DivisionsKeepDegrees, ReductionsKeepDegrees, ReducedStaysSame, ReducedByMore, RemainderRowsFall, RemainderRowsAreFree};
+ghost use Rattle.row_laws.specs.Degrees.{EliminationsLowerDegree, RemaindersHaveLessDegree, DivisionsKeepDegrees, ReductionsKeepDegrees, ReductionsAreFree, ReducedStaysSame, ReducedByMore, RemainderRowsFall, RemainderRowsAreFree};
 ghost use Rattle.row_laws.specs.FirstEntries.{FirstEntriesStandAlone};
-ghost use Rattle.row_laws.specs.Members.{MembersArePlaced, MembersStartRemainderRows, PointsAtMembers};
+ghost use Rattle.row_laws.specs.Members.{MembersArePlaced, MembersAreSplit, ReducedByWhole, MembersStartRemainderRows, PointsAtMembers};
 ghost use Rattle.row_laws.specs.Scaling.{ReductionsOfMultiples, MonicReducesAlike, MonicChainsReduceAlike};
 ghost use Rattle.row_laws.specs.Vanishing.{RemainderRowsVanish, RemainderRowsEndInCommonZero};
 
@@ -129,4 +131,35 @@ pub fn monic_chains_reduce_alike()
 /// First entries of remainders and reductions don't look at cofactors.
 pub fn first_entries_stand_alone()
     ensures { FirstEntriesStandAlone }
+{}
+
+/// A power of the divisor's lead times a polynomial is a multiple of the divisor and the
+/// pseudo-remainder.
+pub fn pseudo_remainders_divide()
+    ensures { PseudoRemaindersDivide }
+{}
+
+/// A product of initials times a polynomial is its reduction and a combination of the chain.
+pub fn reductions_divide()
+    ensures { ReductionsDivide }
+{}
+
+/// The composition of two rows is a row.
+pub fn compositions_are_rows()
+    ensures { CompositionsAreRows }
+{}
+
+/// Reductions of rows bring no variable into an entry.
+pub fn reductions_are_free()
+    ensures { ReductionsAreFree }
+{}
+
+/// The members below a variable, split at one of them.
+pub fn members_are_split()
+    ensures { MembersAreSplit }
+{}
+
+/// What lacks the greater main variables is reduced by the whole set where it is by the others.
+pub fn reduced_by_whole()
+    ensures { ReducedByWhole }
 {}

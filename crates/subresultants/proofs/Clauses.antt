@@ -11,10 +11,10 @@ use Rattle.polynomials.proofs.PolynomialRing.{CanonicalPolynomial}
 use Rattle.zero_sets.specs.Domains.{Tables, IsFiniteDomain, IsPoint, value_at}
 use Rattle.zero_sets.specs.ZeroSets.{InZeroSet, AreNonZero}
 use Rattle.division_rules.specs.Operations.{lead}
-use Rattle.division_rules.specs.Rows.{Row}
+use Rattle.division_rules.specs.Rows.{Row, first_entries}
 use Rattle.division_rules.specs.Chains.{EachRow, IfRow}
 use Rattle.division_rules.specs.PolynomialRows.{IsPolynomialRow, ArePolynomialRows}
-use Rattle.division_rules.specs.RemainderRows.{Rows, remainder_rows, leads}
+use Rattle.division_rules.specs.RemainderRows.{LaterRows, remainder_rows, leads}
 use Rattle.division_rules.specs.RemainderRowsWithin.{remainder_rows_within}
 use Rattle.division_rules.specs.Turns.{DegreesFall}
 use Rattle.division_rules.proofs.Settings.{ViewedRing}
@@ -26,7 +26,7 @@ use Rattle.division_rules.proofs.RowsShape.{rows_each}
 use Rattle.division_rules.proofs.Up.{up, up_rows}
 use Rattle.division_rules.proofs.WithinLimits.{gives-remainder_rows}
 use Rattle.pseudo_division.specs.FieldOperations.{operations}
-use Rattle.row_laws.specs.Words.{first_entries, IsReducedBy, StartRemainderRows}
+use Rattle.row_laws.specs.Words.{IsReducedBy, StartRemainderRows}
 use Rattle.row_laws.specs.Combinations.{IsRowOver, AreRowsOver}
 use Rattle.row_laws.proofs.CombinationRows.{EachRow-down, IfRow-down, combinations_are_kept}
 use Rattle.row_laws.proofs.FallingRows.{remainder_rows_fall}
@@ -61,17 +61,17 @@ leads_nonzero p v (f ∷ rows) each = All-cons (λ l. l ≢ []) (lead (operation
 
 module _ (p w v : ℕ) (prime : IsPrime p) (chain : List (Row Polynomial)) (are : ArePolynomialRows p VARS chain) (t c : Row Polynomial) (it : IsPolynomialRow p VARS t) (ic : IsPolynomialRow p VARS c) (start : StartRemainderRows v (first_entries chain) t.first c.first) where
   -- what holds of all rows holds of the outcome
-  by_rows : (P : Row Polynomial → Type 0) → P t → P c → ((rows : Rows Polynomial) → remainder_rows_within (operations p) w v chain t c ≡ Some rows → EachRow P rows.later × IfRow P rows.last) → EachRemainderRow P (outcome_of p w v chain t c)
+  by_rows : (P : Row Polynomial → Type 0) → P t → P c → ((rows : LaterRows Polynomial) → remainder_rows_within (operations p) w v chain t c ≡ Some rows → EachRow P rows.later × IfRow P rows.last) → EachRemainderRow P (outcome_of p w v chain t c)
   by_rows P ht hc each = go (remainder_rows_within (operations p) w v chain t c) refl
     where
-      go : (x : Option (Rows Polynomial)) → remainder_rows_within (operations p) w v chain t c ≡ x → EachRemainderRow P (outcome_after p v (t ∷ c ∷ []) x)
+      go : (x : Option (LaterRows Polynomial)) → remainder_rows_within (operations p) w v chain t c ≡ x → EachRemainderRow P (outcome_after p v (t ∷ c ∷ []) x)
       go None e = tt
       go (Some rows) e =
           let h = each rows e in
           each_ended P (with_leads p v (t ∷ c ∷ rows.later)) rows.last (ht, (hc, h.0)) h.1
 
   -- the rows are those without a limit on products
-  unlimited : (rows : Rows Polynomial) → remainder_rows_within (operations p) w v chain t c ≡ Some rows → remainder_rows (operations p) w v chain t c ≡ rows
+  unlimited : (rows : LaterRows Polynomial) → remainder_rows_within (operations p) w v chain t c ≡ Some rows → remainder_rows (operations p) w v chain t c ≡ rows
   unlimited rows e = sym (gives_is (remainder_rows_within (operations p) w v chain t c) rows (remainder_rows (operations p) w v chain t c) (gives-remainder_rows (operations p) w v chain t c) e)
 
   -- all entries are canonical
@@ -86,7 +86,7 @@ module _ (p w v : ℕ) (prime : IsPrime p) (chain : List (Row Polynomial)) (are 
     abbrev P : ViewedRing (CanonicalPolynomial p VARS)
     P = polynomial_setting p VARS prime
 
-    abbrev canonical_rows : Rows (CanonicalPolynomial p VARS)
+    abbrev canonical_rows : LaterRows (CanonicalPolynomial p VARS)
     canonical_rows = remainder_rows (canonical_operations p VARS prime.many) w v (up_rows p VARS prime.many chain are) (up p VARS prime.many t it) (up p VARS prime.many c ic)
 
     counted : EachRow (HasCount P count) canonical_rows.later × IfRow (HasCount P count) canonical_rows.last
@@ -105,7 +105,7 @@ module _ (p w v : ℕ) (prime : IsPrime p) (chain : List (Row Polynomial)) (are 
   pub outcome_falls : HasFallingDegrees p v (outcome_of p w v chain t c)
   outcome_falls = go (remainder_rows_within (operations p) w v chain t c) refl
     where
-      go : (x : Option (Rows Polynomial)) → remainder_rows_within (operations p) w v chain t c ≡ x → HasFallingDegrees p v (outcome_after p v (t ∷ c ∷ []) x)
+      go : (x : Option (LaterRows Polynomial)) → remainder_rows_within (operations p) w v chain t c ≡ x → HasFallingDegrees p v (outcome_after p v (t ∷ c ∷ []) x)
       go None e = tt
       go (Some rows) e = falls_ended p v (with_leads p v (t ∷ c ∷ rows.later)) rows.last (start.falls, omega (arith, start.falls, start.occurs), subst (λ x. DegreesFall (operations p) v c x.later x.last) (unlimited rows e) (remainder_rows_fall p VARS w v chain t c prime (it, (ic, are)) start).falls)
 
@@ -117,20 +117,20 @@ module _ (p w v : ℕ) (prime : IsPrime p) (chain : List (Row Polynomial)) (are 
       if_coprime later None each fall = ends_with_lead p v prime t c later (ic, each) fall
       if_coprime later (Some z) each fall = tt
 
-      go : (x : Option (Rows Polynomial)) → remainder_rows_within (operations p) w v chain t c ≡ x → IfCoprime EndsWithItsLead (outcome_after p v (t ∷ c ∷ []) x)
+      go : (x : Option (LaterRows Polynomial)) → remainder_rows_within (operations p) w v chain t c ≡ x → IfCoprime EndsWithItsLead (outcome_after p v (t ∷ c ∷ []) x)
       go None e = tt
       go (Some rows) e = if_coprime rows.later rows.last (AreRemainderRows-remainder_rows_within p VARS prime.many w v chain t c rows are it ic e).0 (subst (λ x. DegreesFall (operations p) v c x.later x.last) (unlimited rows e) (remainder_rows_fall p VARS w v chain t c prime (it, (ic, are)) start).falls)
 
   -- what holds of all rows with their leads, of rows after c that are those without a limit
-  by_leads : (Q : RemainderRows → Type 0) → ((rows : Rows Polynomial) → remainder_rows (operations p) w v chain t c ≡ rows → Q (record { rows = t ∷ c ∷ rows.later; leads = leads (operations p) v (c ∷ rows.later) })) → IfRows Q (outcome_of p w v chain t c)
+  by_leads : (Q : RemainderRows → Type 0) → ((rows : LaterRows Polynomial) → remainder_rows (operations p) w v chain t c ≡ rows → Q (record { rows = t ∷ c ∷ rows.later; leads = leads (operations p) v (c ∷ rows.later) })) → IfRows Q (outcome_of p w v chain t c)
   by_leads Q each = go (remainder_rows_within (operations p) w v chain t c) refl
     where
-      go : (x : Option (Rows Polynomial)) → remainder_rows_within (operations p) w v chain t c ≡ x → IfRows Q (outcome_after p v (t ∷ c ∷ []) x)
+      go : (x : Option (LaterRows Polynomial)) → remainder_rows_within (operations p) w v chain t c ≡ x → IfRows Q (outcome_after p v (t ∷ c ∷ []) x)
       go None e = tt
       go (Some rows) e = if_ended Q (with_leads p v (t ∷ c ∷ rows.later)) rows.last (each rows (unlimited rows e))
 
   -- what holds by the law of falling degrees
-  abbrev later_nonzero : (rows : Rows Polynomial) → remainder_rows (operations p) w v chain t c ≡ rows → EachRow (λ f. f.first ≢ []) rows.later
+  abbrev later_nonzero : (rows : LaterRows Polynomial) → remainder_rows (operations p) w v chain t c ≡ rows → EachRow (λ f. f.first ≢ []) rows.later
   later_nonzero rows e = subst (λ x. EachRow (λ f. f.first ≢ []) x.later) e (remainder_rows_fall p VARS w v chain t c prime (it, (ic, are)) start).nonzero
 
   c_nonzero : c.first ≢ []
@@ -157,7 +157,7 @@ module _ (p w v : ℕ) (prime : IsPrime p) (chain : List (Row Polynomial)) (are 
       two_less : (j : ℕ) → suc (suc j) - 2 ≡ j
       two_less j = omega arith
 
-      vanishes : (rows : Rows Polynomial) → remainder_rows (operations p) w v chain t c ≡ rows → (d : Tables) (xs : List ℕ) → IsFiniteDomain p d → IsPoint d xs → InZeroSet d xs (c.first ∷ t.first ∷ first_entries chain) → VanishesBehindLeads d xs (record { rows = t ∷ c ∷ rows.later; leads = leads (operations p) v (c ∷ rows.later) })
+      vanishes : (rows : LaterRows Polynomial) → remainder_rows (operations p) w v chain t c ≡ rows → (d : Tables) (xs : List ℕ) → IsFiniteDomain p d → IsPoint d xs → InZeroSet d xs (c.first ∷ t.first ∷ first_entries chain) → VanishesBehindLeads d xs (record { rows = t ∷ c ∷ rows.later; leads = leads (operations p) v (c ∷ rows.later) })
       vanishes rows e d xs domain point zeros zero f at leads_are = ap (λ (x : Row Polynomial). value_at d xs x.first) (sym (same_row t f at)) ∙ zeros.1.0
       vanishes rows e d xs domain point zeros (suc zero) f at leads_are = ap (λ (x : Row Polynomial). value_at d xs x.first) (sym (same_row c f at)) ∙ zeros.0
       vanishes rows e d xs domain point zeros (suc (suc j)) f at leads_are = remainder_rows_vanish p VARS w v d xs chain t c prime domain point (it, (ic, are)) start (zeros.1.0, (zeros.0, zeros.1.1)) j f (subst (λ x. slice_get x.later j ≡ Some f) (sym e) at) (subst (λ x. AreNonZero d xs (take j (leads (operations p) v (c ∷ x.later)))) (sym e) (subst (λ i. AreNonZero d xs (take i (leads (operations p) v (c ∷ rows.later)))) (two_less j) leads_are))

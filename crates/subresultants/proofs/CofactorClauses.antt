@@ -5,7 +5,7 @@ use Rattle.polynomials.specs.Primes.{IsPrime}
 use Rattle.polynomials.specs.Polynomials.{Polynomial, IsPolynomial, ArePolynomials}
 use Rattle.polynomials.specs.Views.{degree_in}
 use Rattle.division_rules.specs.Cofactors.{AreCofactorSteps}
-use Rattle.division_rules.specs.RemainderRows.{Rows, remainder_rows}
+use Rattle.division_rules.specs.RemainderRows.{LaterRows, remainder_rows}
 use Rattle.division_rules.specs.RemainderRowsWithin.{remainder_rows_within}
 use Rattle.division_rules.specs.Rows.{Row}
 use Rattle.division_rules.proofs.WithinLimits.{gives-remainder_rows}
@@ -27,14 +27,14 @@ module _ (p w v : ℕ) (prime : IsPrime p) (t c : Polynomial) (chain : List Poly
   abbrev second : Row Polynomial
   second = generator_row true 0 (suc (length chain)) c
 
-  abbrev within : Option (Rows Polynomial)
+  abbrev within : Option (LaterRows Polynomial)
   within = remainder_rows_within (operations p) w v (generator_rows p true 2 chain) first second
 
   -- the rows without a limit on products
-  abbrev rows : Rows Polynomial
+  abbrev rows : LaterRows Polynomial
   rows = rows_with_cofactors p VARS w v c t chain
 
-  is_unlimited : (found : Rows Polynomial) → within ≡ Some found → rows ≡ found
+  is_unlimited : (found : LaterRows Polynomial) → within ≡ Some found → rows ≡ found
   is_unlimited found e = sym (gives_is within found rows (gives-remainder_rows (operations p) w v (generator_rows p true 2 chain) first second) e)
 
   -- what holds where the rows end with a zero row holds of a common outcome
@@ -45,9 +45,9 @@ module _ (p w v : ℕ) (prime : IsPrime p) (t c : Polynomial) (chain : List Poly
       by_last None e = tt
       by_last (Some z) e = each z (record { prime = prime; canonical = (ic, (it, are)); start = start; last = e })
 
-      go : (x : Option (Rows Polynomial)) → within ≡ x → IfCommon P (outcome_after p v (first ∷ second ∷ []) x)
+      go : (x : Option (LaterRows Polynomial)) → within ≡ x → IfCommon P (outcome_after p v (first ∷ second ∷ []) x)
       go None e = tt
-      go (Some found) e = subst (λ (x : Rows Polynomial). IfCommon P (ended (with_leads p v (first ∷ second ∷ x.later)) x.last)) (is_unlimited found e) (by_last rows.last refl)
+      go (Some found) e = subst (λ (x : LaterRows Polynomial). IfCommon P (ended (with_leads p v (first ∷ second ∷ x.later)) x.last)) (is_unlimited found e) (by_last rows.last refl)
 
   -- the degree and the lead grow from row to row
   pub cofactor_steps : IfCommon (HasCofactorSteps p w v chain) (remainders_of p w v true t c chain)

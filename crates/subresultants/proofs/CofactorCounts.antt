@@ -3,7 +3,7 @@ use Rattle.std.proofs.Common.{◌≡◌, ℕ, List, Some, sym, ap, ◌∙◌, le
 use Rattle.division_rules.specs.Operations.{lead, shifted_lead}
 use Rattle.division_rules.specs.Rows.{Row, elimination, turns, times_row, pseudo_remainder}
 use Rattle.division_rules.specs.Chains.{EachRow}
-use Rattle.division_rules.specs.RemainderRows.{quotients, divided, Memory, next_beta, undivided, next_row}
+use Rattle.division_rules.specs.RemainderRows.{quotients, divided, TurnBefore, next_beta, undivided, next_row}
 use Rattle.division_rules.proofs.Settings.{ViewedRing, operations}
 use Rattle.division_rules.proofs.Combinations.{length-cross_all}
 use Rattle.division_rules.proofs.FreeNonzero.{in_option}
@@ -35,7 +35,7 @@ module _ {A : Type 0} (P : ViewedRing A) (k : ℕ) where
   count-divided w b f h e hf = sym (length-map_by (◌⊗◌ b) h.cofactors) ∙ ap length (quotients-times P f.cofactors w b f.cofactors h.cofactors (row_of-some (quotient w f.first b) (quotients (operations P) w b f.cofactors) h e).1) ∙ hf
 
   -- the next row
-  pub count-next_row : (w v : ℕ) (chain : List (Row A)) (m : Memory (operations P)) (f g : Row A) → EachRow HasCount chain → HasCount f → HasCount g → HasCount (next_row (operations P) w v chain m f g)
+  pub count-next_row : (w v : ℕ) (chain : List (Row A)) (m : TurnBefore (operations P)) (f g : Row A) → EachRow HasCount chain → HasCount f → HasCount g → HasCount (next_row (operations P) w v chain m f g)
   count-next_row w v chain m f g each hf hg = in_option HasCount (divided (operations P) w (next_beta (operations P) w v m f g) (undivided (operations P) v chain f g)) (undivided (operations P) v chain f g) (λ h e. count-divided w (next_beta (operations P) w v m f g) (undivided (operations P) v chain f g) h e before) before
     where
       before : HasCount (undivided (operations P) v chain f g)

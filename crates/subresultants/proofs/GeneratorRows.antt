@@ -5,10 +5,9 @@ use Rattle.std.proofs.lemmas.List.{length-replicate}
 use Rattle.mono_words.specs.declared.mono.TheConstants.{VARS}
 use Rattle.polynomials.specs.Polynomials.{Polynomial, IsPolynomial, ArePolynomials, one_of}
 use Rattle.polynomials.proofs.Canonical.{IsPolynomial-one_of}
-use Rattle.division_rules.specs.Rows.{Row}
+use Rattle.division_rules.specs.Rows.{Row, first_entries}
 use Rattle.division_rules.specs.Chains.{EachRow}
 use Rattle.division_rules.specs.PolynomialRows.{IsPolynomialRow, ArePolynomialRows}
-use Rattle.row_laws.specs.Words.{first_entries}
 use Rattle.pseudo_division.proofs.Lists.{drop_at}
 use Rattle.subresultants.specs.Generators.{generator_row, generator_rows}
 

@@ -1,5 +1,5 @@
 -- Quotients by 1 are what is divided.
-use Rattle.std.proofs.Common.{◌≡◌, ℕ, List, [], ◌∷◌, Option, Some, None, refl, sym, ap, ap₂, ◌∙◌}
+use Rattle.std.proofs.Common.{◌≡◌, ℕ, List, [], ◌∷◌, Option, Some, None, refl, sym, ap, ap₂, ◌∙◌, unwrap_or}
 use Rattle.polynomials.specs.Primes.{IsPrime}
 use Rattle.polynomials.specs.Polynomials.{Polynomial, IsPolynomial, ArePolynomials, one_of}
 use Rattle.polynomials.proofs.Canonical.{IsPolynomial-one_of}
@@ -8,7 +8,7 @@ use Rattle.polynomials.proofs.RingLaws.{times-one}
 use Rattle.division_rules.specs.Lists.{list_operations}
 use Rattle.division_rules.specs.PolynomialRows.{IsPolynomialRow}
 use Rattle.division_rules.specs.Quotients.{quotient_within}
-use Rattle.division_rules.specs.RemainderRows.{or_else, quotients, divided}
+use Rattle.division_rules.specs.RemainderRows.{quotients, divided}
 use Rattle.division_rules.specs.Rows.{Row}
 use Rattle.division_rules.proofs.Identity.{both-some, row_of-some}
 use Rattle.division_rules.proofs.QuotientFacts.{quotient_within_canonical}
@@ -27,18 +27,18 @@ module _ (p n : ℕ) (prime : IsPrime p) (w : ℕ) where
       parts.4 ∙ ap₂ ◌∷◌ (quotient-one f parts.0 are.0 parts.2) (quotients-one fs parts.1 are.1 parts.3)
 
   -- of a polynomial
-  pub quotient_or_itself-one : (f : Polynomial) → IsPolynomial p n f → or_else (quotient_within p w f (one_of n)) f ≡ f
+  pub quotient_or_itself-one : (f : Polynomial) → IsPolynomial p n f → unwrap_or (quotient_within p w f (one_of n)) f ≡ f
   quotient_or_itself-one f i = go (quotient_within p w f (one_of n)) refl
     where
-      go : (m : Option Polynomial) → quotient_within p w f (one_of n) ≡ m → or_else m f ≡ f
+      go : (m : Option Polynomial) → quotient_within p w f (one_of n) ≡ m → unwrap_or m f ≡ f
       go None e = refl
       go (Some q) e = quotient-one f q i e
 
   -- and of a row
-  pub divided-one : (f : Row Polynomial) → IsPolynomialRow p n f → or_else (divided (list_operations p n) w (one_of n) f) f ≡ f
+  pub divided-one : (f : Row Polynomial) → IsPolynomialRow p n f → unwrap_or (divided (list_operations p n) w (one_of n) f) f ≡ f
   divided-one f i = go (divided (list_operations p n) w (one_of n) f) refl
     where
-      go : (m : Option (Row Polynomial)) → divided (list_operations p n) w (one_of n) f ≡ m → or_else m f ≡ f
+      go : (m : Option (Row Polynomial)) → divided (list_operations p n) w (one_of n) f ≡ m → unwrap_or m f ≡ f
       go None e = refl
       go (Some h) e =
           let parts = row_of-some (quotient_within p w f.first (one_of n)) (quotients (list_operations p n) w (one_of n) f.cofactors) h e in

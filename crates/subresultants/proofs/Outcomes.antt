@@ -1,20 +1,20 @@
 -- The rows after one turn, and the outcome of a sequence by its next turn.
-use Rattle.std.proofs.Common.{◌≡◌, ◌≢◌, ℕ, suc, true, false, Bool, eqb, List, [], ◌∷◌, ◌++◌, drop, Option, Some, None, refl, sym, ap, ◌∙◌, append_assoc, append-nil}
+use Rattle.std.proofs.Common.{◌≡◌, ◌≢◌, ℕ, suc, true, false, Bool, eqb, List, [], ◌∷◌, ◌++◌, drop, Option, Some, None, refl, sym, ap, ◌∙◌, append_assoc, append-nil, unwrap_or}
 use Rattle.std.proofs.lemmas.Bool.{eqb-true}
 use Rattle.polynomials.specs.Polynomials.{Polynomial, is_zero}
 use Rattle.polynomials.specs.Views.{degree_in}
 use Rattle.division_rules.specs.Operations.{lead}
 use Rattle.division_rules.specs.Rows.{Row}
 use Rattle.division_rules.specs.Within.{and_then}
-use Rattle.division_rules.specs.RemainderRows.{Rows, Memory, with_row, or_else, divided, fall, leads}
+use Rattle.division_rules.specs.RemainderRows.{LaterRows, TurnBefore, with_row, divided, fall, leads}
 use Rattle.division_rules.specs.RemainderRowsWithin.{psi_within, beta_within, undivided_within, rows_onward, rows_from_within}
 use Rattle.pseudo_division.specs.FieldOperations.{operations}
 use Rattle.subresultants.specs.Outcomes.{with_leads, outcome_after}
 use Rattle.subresultants.specs.Turns.{divisors_within, divided_turn, turn_within}
 use Rattle.subresultants.specs.declared.outcome.Remainders.{Remainders}
 use Rattle.subresultants.specs.declared.outcome.Remainders.TheVariants.{Coprime, Common, TooWide}
-use Rattle.subresultants.specs.declared.turn.Turn.{Turn}
-use Rattle.subresultants.specs.declared.turn.Turn.TheVariants.{Zero, Later}
+use Rattle.subresultants.specs.declared.turn.NextRow.{NextRow}
+use Rattle.subresultants.specs.declared.turn.NextRow.TheVariants.{Zero, Later}
 
 -- steps one after the other
 and_then-and_then : {X Y Z : Type 0} (x : Option X) (f : X → Option Y) (g : Y → Option Z) → and_then (and_then x f) g ≡ and_then x (λ z. and_then (f z) g)
@@ -37,14 +37,14 @@ two_steps (Some q) f on made after same = go (f q)
 
 module _ (p w v : ℕ) (chain : List (Row Polynomial)) where
   -- the rows after g, from the turn on that follows it
-  abbrev rows_after : ℕ → Row Polynomial → Turn → Option (Rows Polynomial)
+  abbrev rows_after : ℕ → Row Polynomial → NextRow → Option (LaterRows Polynomial)
   rows_after k g (Zero s) = Some (record { later = []; last = Some s })
   rows_after k g (Later h m) = elim (eqb (degree_in v h.first) 0) [
     | true ↦ Some (record { later = h ∷ []; last = None })
     | false ↦ and_then (rows_from_within (operations p) w v chain k (Some m) g h) (λ rows. Some (with_row h rows))
   ]
 
-  module _ (k : ℕ) (m : Memory (operations p)) (f g : Row Polynomial) where
+  module _ (k : ℕ) (m : TurnBefore (operations p)) (f g : Row Polynomial) where
     abbrev d : ℕ
     d = fall (operations p) v f g
 
@@ -57,14 +57,14 @@ module _ (p w v : ℕ) (chain : List (Row Polynomial)) where
     abbrev divisors : Option (Polynomial × Polynomial)
     divisors = divisors_within p w v m f d
 
-    abbrev further : Memory (operations p) → Row Polynomial → Row Polynomial → Option (Rows Polynomial)
+    abbrev further : TurnBefore (operations p) → Row Polynomial → Row Polynomial → Option (LaterRows Polynomial)
     further n x y = rows_from_within (operations p) w v chain k n x y
 
-    abbrev later : Row Polynomial → Polynomial × Polynomial → Turn
-    later s qb = Later (or_else (divided (operations p) w qb.1 s) s) (qb.0, d)
+    abbrev later : Row Polynomial → Polynomial × Polynomial → NextRow
+    later s qb = Later (unwrap_or (divided (operations p) w qb.1 s) s) (qb.0, d)
 
     -- from the row before its division
-    from_undivided : (s : Row Polynomial) (b : Bool) → elim b as (λ _. Option (Rows Polynomial)) [ true ↦ Some (record { later = []; last = Some s }) | false ↦ and_then psi (λ q. and_then (beta q) (λ b. rows_onward (operations p) w v further f g s q b)) ] ≡ and_then (elim b as (λ _. Option Turn) [ true ↦ Some (Zero s) | false ↦ and_then divisors (λ qb. Some (later s qb)) ]) (rows_after k g)
+    from_undivided : (s : Row Polynomial) (b : Bool) → elim b as (λ _. Option (LaterRows Polynomial)) [ true ↦ Some (record { later = []; last = Some s }) | false ↦ and_then psi (λ q. and_then (beta q) (λ b. rows_onward (operations p) w v further f g s q b)) ] ≡ and_then (elim b as (λ _. Option NextRow) [ true ↦ Some (Zero s) | false ↦ and_then divisors (λ qb. Some (later s qb)) ]) (rows_after k g)
     from_undivided s true = refl
     from_undivided s false = two_steps psi beta (λ q b. rows_onward (operations p) w v further f g s q b) (later s) (rows_after k g) (λ q b. refl)
 
@@ -79,7 +79,7 @@ module _ (p w v : ℕ) (chain : List (Row Polynomial)) where
       abbrev Outcome : Remainders
       Outcome = outcome_after p v rows (rows_from_within (operations p) w v chain (suc k) m f g)
 
-      by_turn : (t : Option Turn) → turn_within p w v chain m f g ≡ t → Outcome ≡ outcome_after p v rows (and_then t (rows_after k g))
+      by_turn : (t : Option NextRow) → turn_within p w v chain m f g ≡ t → Outcome ≡ outcome_after p v rows (and_then t (rows_after k g))
       by_turn t e = ap (outcome_after p v rows) (rows_from_within-turn ∙ ap (λ x. and_then x (rows_after k g)) e)
 
       -- where a product doesn't fit
@@ -93,22 +93,22 @@ module _ (p w v : ℕ) (chain : List (Row Polynomial)) where
       module _ (h : Row Polynomial) (next : Polynomial × ℕ) (e : turn_within p w v chain m f g ≡ Some (Later h next)) where
         -- where a row of degree 0 follows
         pub outcome-last : degree_in v h.first ≡ 0 → Outcome ≡ Coprime (with_leads p v (rows ++ h ∷ []))
-        outcome-last low = by_turn (Some (Later h next)) e ∙ ap (λ d. outcome_after p v rows (elim (eqb d 0) as (λ _. Option (Rows Polynomial)) [ true ↦ Some (record { later = h ∷ []; last = None }) | false ↦ and_then (rows_from_within (operations p) w v chain k (Some next) g h) (λ rs. Some (with_row h rs)) ])) low
+        outcome-last low = by_turn (Some (Later h next)) e ∙ ap (λ d. outcome_after p v rows (elim (eqb d 0) as (λ _. Option (LaterRows Polynomial)) [ true ↦ Some (record { later = h ∷ []; last = None }) | false ↦ and_then (rows_from_within (operations p) w v chain k (Some next) g h) (λ rs. Some (with_row h rs)) ])) low
 
         -- where another row follows, which is one of the rows so far then
         pub outcome-later : degree_in v h.first ≢ 0 → Outcome ≡ outcome_after p v (rows ++ h ∷ []) (rows_from_within (operations p) w v chain k (Some next) g h)
         outcome-later high = by_turn (Some (Later h next)) e ∙ go (eqb (degree_in v h.first) 0) refl
           where
-            one_more : (x : Option (Rows Polynomial)) → outcome_after p v rows (and_then x (λ rs. Some (with_row h rs))) ≡ outcome_after p v (rows ++ h ∷ []) x
+            one_more : (x : Option (LaterRows Polynomial)) → outcome_after p v rows (and_then x (λ rs. Some (with_row h rs))) ≡ outcome_after p v (rows ++ h ∷ []) x
             one_more None = refl
             one_more (Some rs) = ap (λ zs. outcome_after p v [] (Some (record { later = zs; last = rs.last }))) (sym (append_assoc rows (h ∷ []) rs.later))
 
-            go : (b : Bool) → eqb (degree_in v h.first) 0 ≡ b → outcome_after p v rows (elim b as (λ _. Option (Rows Polynomial)) [ true ↦ Some (record { later = h ∷ []; last = None }) | false ↦ and_then (rows_from_within (operations p) w v chain k (Some next) g h) (λ rs. Some (with_row h rs)) ]) ≡ outcome_after p v (rows ++ h ∷ []) (rows_from_within (operations p) w v chain k (Some next) g h)
+            go : (b : Bool) → eqb (degree_in v h.first) 0 ≡ b → outcome_after p v rows (elim b as (λ _. Option (LaterRows Polynomial)) [ true ↦ Some (record { later = h ∷ []; last = None }) | false ↦ and_then (rows_from_within (operations p) w v chain k (Some next) g h) (λ rs. Some (with_row h rs)) ]) ≡ outcome_after p v (rows ++ h ∷ []) (rows_from_within (operations p) w v chain k (Some next) g h)
             go true d = absurd (high (eqb-true (degree_in v h.first) 0 d))
             go false d = one_more (rows_from_within (operations p) w v chain k (Some next) g h)
 
   -- where no turn is left
-  pub outcome-end : (m : Memory (operations p)) (f g : Row Polynomial) (rows : List (Row Polynomial)) → outcome_after p v rows (rows_from_within (operations p) w v chain 0 m f g) ≡ Coprime (with_leads p v rows)
+  pub outcome-end : (m : TurnBefore (operations p)) (f g : Row Polynomial) (rows : List (Row Polynomial)) → outcome_after p v rows (rows_from_within (operations p) w v chain 0 m f g) ≡ Coprime (with_leads p v rows)
   outcome-end m f g rows = ap (λ rs. Coprime (with_leads p v rs)) (append-nil rows)
 
 -- the leads with one row more

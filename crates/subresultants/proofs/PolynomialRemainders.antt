@@ -6,13 +6,13 @@ use Rattle.polynomials.specs.Polynomials.{Polynomial, IsPolynomial, ArePolynomia
 use Rattle.polynomials.specs.Views.{main_var}
 use Rattle.zero_sets.specs.ZeroSets.{IsTriangularFrom}
 use Rattle.division_rules.specs.Lists.{variable_or_zero}
-use Rattle.division_rules.specs.Rows.{Row}
+use Rattle.division_rules.specs.Rows.{Row, first_entries}
 use Rattle.division_rules.specs.Chains.{EachRow}
 use Rattle.division_rules.specs.PolynomialRows.{IsPolynomialRow, ArePolynomialRows}
 use Rattle.division_rules.specs.Units.{IsCombinationOf}
 use Rattle.division_rules.proofs.Steps.{EachRow-map}
 use Rattle.pseudo_division.specs.FieldOperations.{operations}
-use Rattle.row_laws.specs.Words.{first_entries, AreBelow, StartRemainderRows}
+use Rattle.row_laws.specs.Words.{AreBelow, StartRemainderRows}
 use Rattle.row_laws.specs.Combinations.{IsRowOver}
 use Rattle.row_laws.proofs.CombinationRows.{combinations_are_kept}
 use Rattle.row_laws.proofs.Starts.{variable_below}

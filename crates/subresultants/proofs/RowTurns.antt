@@ -1,5 +1,5 @@
 -- Turns of rows of lists of terms, as turns of rows of canonical polynomials.
-use Rattle.std.proofs.Common.{◌≡◌, ◌≢◌, ◌<◌, ◌≤◌, ℕ, Bool, true, false, List, [], length, Some, None, refl, sym, ap, subst, ◌∙◌, arith}
+use Rattle.std.proofs.Common.{◌≡◌, ◌≢◌, ◌<◌, ◌≤◌, ℕ, Bool, true, false, List, [], length, Some, None, refl, sym, ap, subst, ◌∙◌, arith, unwrap_or}
 use Rattle.mono_words.specs.declared.mono.TheConstants.{VARS}
 use Rattle.polynomials.specs.Primes.{IsPrime}
 use Rattle.polynomials.specs.Polynomials.{Polynomial, is_zero}
@@ -9,7 +9,7 @@ use Rattle.division_rules.specs.Operations.{lead}
 use Rattle.division_rules.specs.Rows.{Row}
 use Rattle.division_rules.specs.Chains.{EachRow}
 use Rattle.division_rules.specs.PolynomialRows.{IsPolynomialRow}
-use Rattle.division_rules.specs.RemainderRows.{Memory, or_else, divided, fall, psi, beta, next_psi, next_beta, undivided, next_row}
+use Rattle.division_rules.specs.RemainderRows.{TurnBefore, divided, fall, psi, beta, next_psi, next_beta, undivided, next_row}
 use Rattle.division_rules.specs.RemainderRowsWithin.{psi_within, beta_within, undivided_within}
 use Rattle.division_rules.specs.Turns.{IsBase, IsTurn}
 use Rattle.division_rules.specs.Within.{and_then}
@@ -24,20 +24,20 @@ use Rattle.division_rules.proofs.Turns.{next_turn}
 use Rattle.division_rules.proofs.WithinLimits.{Gives, gives-then, gives-choice, gives-undivided, gives-psi, gives-beta}
 use Rattle.pseudo_division.specs.FieldOperations.{operations}
 use Rattle.subresultants.specs.Turns.{IsMemoryOver, divisors_within, divided_turn, turn_within}
-use Rattle.subresultants.specs.declared.turn.Turn.{Turn}
-use Rattle.subresultants.specs.declared.turn.Turn.TheVariants.{Zero, Later}
+use Rattle.subresultants.specs.declared.turn.NextRow.{NextRow}
+use Rattle.subresultants.specs.declared.turn.NextRow.TheVariants.{Zero, Later}
 use Rattle.subresultants.proofs.CofactorCounts.{HasCount, count-next_row}
 use Rattle.subresultants.proofs.Nonzero.{gives_is}
 
 module _ (p w v : ℕ) where
   -- a turn without a limit on products
-  abbrev turn_of : List (Row Polynomial) → Memory (operations p) → Row Polynomial → Row Polynomial → Turn
+  abbrev turn_of : List (Row Polynomial) → TurnBefore (operations p) → Row Polynomial → Row Polynomial → NextRow
   turn_of chain m f g = elim (is_zero (undivided (operations p) v chain f g).first) [
     | true ↦ Zero (undivided (operations p) v chain f g)
     | false ↦ Later (next_row (operations p) w v chain m f g) (next_psi (operations p) w v m f, fall (operations p) v f g)
   ]
 
-  gives-divisors : (m : Memory (operations p)) (f g : Row Polynomial) → Gives (divisors_within p w v m f (fall (operations p) v f g)) (next_psi (operations p) w v m f, next_beta (operations p) w v m f g)
+  gives-divisors : (m : TurnBefore (operations p)) (f g : Row Polynomial) → Gives (divisors_within p w v m f (fall (operations p) v f g)) (next_psi (operations p) w v m f, next_beta (operations p) w v m f g)
   gives-divisors m f g = gives-then (psi_within (operations p) w m l) (psi (operations p) w m l) (λ q. and_then (beta_within (operations p) w m l q d) (λ b. Some (q, b))) (λ q. (q, beta (operations p) m l q d)) (gives-psi (operations p) w m l) (λ q. gives-then (beta_within (operations p) w m l q d) (beta (operations p) m l q d) (λ b. Some (q, b)) (λ b. (q, b)) (gives-beta (operations p) w m l q d) (λ b. refl))
     where
       l : Polynomial
@@ -47,8 +47,8 @@ module _ (p w v : ℕ) where
       d = fall (operations p) v f g
 
   -- within a width it is the same where there is one
-  gives-turn : (chain : List (Row Polynomial)) (m : Memory (operations p)) (f g : Row Polynomial) → Gives (turn_within p w v chain m f g) (turn_of chain m f g)
-  gives-turn chain m f g = gives-then (undivided_within (operations p) w v chain f g) (undivided (operations p) v chain f g) (λ s. divided_turn p w v m f g s) (λ s. elim (is_zero s.first) as (λ _. Turn) [ true ↦ Zero s | false ↦ later s (q, b) ]) (gives-undivided (operations p) w v chain f g) (λ s. gives-choice (is_zero s.first) (Some (Zero s)) (and_then (divisors_within p w v m f d) (λ qb. Some (later s qb))) (Zero s) (later s (q, b)) refl (gives-then (divisors_within p w v m f d) (q, b) (λ qb. Some (later s qb)) (later s) (gives-divisors m f g) (λ qb. refl)))
+  gives-turn : (chain : List (Row Polynomial)) (m : TurnBefore (operations p)) (f g : Row Polynomial) → Gives (turn_within p w v chain m f g) (turn_of chain m f g)
+  gives-turn chain m f g = gives-then (undivided_within (operations p) w v chain f g) (undivided (operations p) v chain f g) (λ s. divided_turn p w v m f g s) (λ s. elim (is_zero s.first) as (λ _. NextRow) [ true ↦ Zero s | false ↦ later s (q, b) ]) (gives-undivided (operations p) w v chain f g) (λ s. gives-choice (is_zero s.first) (Some (Zero s)) (and_then (divisors_within p w v m f d) (λ qb. Some (later s qb))) (Zero s) (later s (q, b)) refl (gives-then (divisors_within p w v m f d) (q, b) (λ qb. Some (later s qb)) (later s) (gives-divisors m f g) (λ qb. refl)))
     where
       d : ℕ
       d = fall (operations p) v f g
@@ -59,11 +59,11 @@ module _ (p w v : ℕ) where
       b : Polynomial
       b = next_beta (operations p) w v m f g
 
-      later : Row Polynomial → Polynomial × Polynomial → Turn
-      later s qb = Later (or_else (divided (operations p) w qb.1 s) s) (qb.0, d)
+      later : Row Polynomial → Polynomial × Polynomial → NextRow
+      later s qb = Later (unwrap_or (divided (operations p) w qb.1 s) s) (qb.0, d)
 
 -- a turn of rows of canonical polynomials, each with count cofactors
-pub record IsCanonicalTurn (p v : ℕ) (prime : IsPrime p) (count : ℕ) (low : List (Row (CanonicalPolynomial p VARS))) (memory : Memory (canonical_operations p VARS prime.many)) (first second : Row (CanonicalPolynomial p VARS)) : Type 0 where
+pub record IsCanonicalTurn (p v : ℕ) (prime : IsPrime p) (count : ℕ) (low : List (Row (CanonicalPolynomial p VARS))) (memory : TurnBefore (canonical_operations p VARS prime.many)) (first second : Row (CanonicalPolynomial p VARS)) : Type 0 where
   pub base : IsBase (polynomial_setting p VARS prime).ring (polynomial_setting p VARS prime).views (polynomial_setting p VARS prime).laws v low
   pub turn : IsTurn (polynomial_setting p VARS prime).ring (polynomial_setting p VARS prime).views (polynomial_setting p VARS prime).laws v low memory first second
   pub high : 1 ≤ degree_in v second.first.0
@@ -72,10 +72,10 @@ pub record IsCanonicalTurn (p v : ℕ) (prime : IsPrime p) (count : ℕ) (low : 
   pub second_count : HasCount (polynomial_setting p VARS prime) count second
 
 -- f and g are the lists of terms of such a turn, and so are the chain and what is remembered
-pub record IsRowTurn (p v : ℕ) (count : ℕ) (chain : List (Row Polynomial)) (m : Memory (operations p)) (f g : Row Polynomial) : Type 0 where
+pub record IsRowTurn (p v : ℕ) (count : ℕ) (chain : List (Row Polynomial)) (m : TurnBefore (operations p)) (f g : Row Polynomial) : Type 0 where
   pub prime : IsPrime p
   pub low : List (Row (CanonicalPolynomial p VARS))
-  pub memory : Memory (canonical_operations p VARS prime.many)
+  pub memory : TurnBefore (canonical_operations p VARS prime.many)
   pub first : Row (CanonicalPolynomial p VARS)
   pub second : Row (CanonicalPolynomial p VARS)
   pub low_is : down_all p VARS prime.many low ≡ chain
@@ -84,7 +84,7 @@ pub record IsRowTurn (p v : ℕ) (count : ℕ) (chain : List (Row Polynomial)) (
   pub second_is : down p VARS prime.many second ≡ g
   pub canonical : IsCanonicalTurn p v prime count low memory first second
 
-module _ (p v count : ℕ) (chain : List (Row Polynomial)) (m : Memory (operations p)) (f g : Row Polynomial) (t : IsRowTurn p v count chain m f g) where
+module _ (p v count : ℕ) (chain : List (Row Polynomial)) (m : TurnBefore (operations p)) (f g : Row Polynomial) (t : IsRowTurn p v count chain m f g) where
   -- both rows are canonical
   pub first_canonical : IsPolynomialRow p VARS f
   first_canonical = subst (IsPolynomialRow p VARS) t.first_is (down_canonical p VARS t.prime.many t.first)
@@ -114,7 +114,7 @@ module _ (p v count : ℕ) (chain : List (Row Polynomial)) (m : Memory (operatio
   pub memory_over : IsMemoryOver p m
   memory_over = subst (IsMemoryOver p) t.memory_is (go t.memory t.canonical.turn)
     where
-      go : (memory : Memory (canonical_operations p VARS t.prime.many)) → IsTurn (polynomial_setting p VARS t.prime).ring (polynomial_setting p VARS t.prime).views (polynomial_setting p VARS t.prime).laws v t.low memory t.first t.second → IsMemoryOver p (down_memory p VARS t.prime.many memory)
+      go : (memory : TurnBefore (canonical_operations p VARS t.prime.many)) → IsTurn (polynomial_setting p VARS t.prime).ring (polynomial_setting p VARS t.prime).views (polynomial_setting p VARS t.prime).laws v t.low memory t.first t.second → IsMemoryOver p (down_memory p VARS t.prime.many memory)
       go None turn = tt
       go (Some x) turn = (x.0.1, λ none. turn.memory.0 (canonical_path p VARS _ _ none))
 
@@ -128,7 +128,7 @@ module _ (p v count : ℕ) (chain : List (Row Polynomial)) (m : Memory (operatio
       chains : List (Row Polynomial)
       chains = down_all p VARS t.prime.many t.low
 
-      memory : Memory (operations p)
+      memory : TurnBefore (operations p)
       memory = down_memory p VARS t.prime.many t.memory
 
       first : Row Polynomial
@@ -143,7 +143,7 @@ module _ (p v count : ℕ) (chain : List (Row Polynomial)) (m : Memory (operatio
       h_row : Row (CanonicalPolynomial p VARS)
       h_row = next_row (canonical_operations p VARS t.prime.many) w v t.low t.memory t.first t.second
 
-      h_memory : Memory (canonical_operations p VARS t.prime.many)
+      h_memory : TurnBefore (canonical_operations p VARS t.prime.many)
       h_memory = Some (next_psi (canonical_operations p VARS t.prime.many) w v t.memory t.first, fall (canonical_operations p VARS t.prime.many) v t.first t.second)
 
       h_down : down p VARS t.prime.many h_row ≡ next_row (operations p) w v chains memory first second
@@ -152,7 +152,7 @@ module _ (p v count : ℕ) (chain : List (Row Polynomial)) (m : Memory (operatio
       psi_down : (next_psi (canonical_operations p VARS t.prime.many) w v t.memory t.first).0 ≡ next_psi (operations p) w v memory first
       psi_down = terms-next_psi p VARS t.prime.many w v t.memory t.first
 
-      go : (b : Bool) → is_zero (undivided (operations p) v chains first second).first ≡ b → Later h next ≡ elim b as (λ _. Turn) [ true ↦ Zero (undivided (operations p) v chains first second) | false ↦ Later (next_row (operations p) w v chains memory first second) (next_psi (operations p) w v memory first, fall (operations p) v first second) ] → IsRowTurn p v count chain (Some next) g h
+      go : (b : Bool) → is_zero (undivided (operations p) v chains first second).first ≡ b → Later h next ≡ elim b as (λ _. NextRow) [ true ↦ Zero (undivided (operations p) v chains first second) | false ↦ Later (next_row (operations p) w v chains memory first second) (next_psi (operations p) w v memory first, fall (operations p) v first second) ] → IsRowTurn p v count chain (Some next) g h
       go true z is = cc
       go false z is =
           let h_is : h ≡ next_row (operations p) w v chains memory first second = cc in

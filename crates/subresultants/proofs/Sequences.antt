@@ -5,19 +5,19 @@ use Rattle.polynomials.specs.Polynomials.{Polynomial}
 use Rattle.polynomials.specs.Views.{degree_in}
 use Rattle.division_rules.specs.Operations.{lead}
 use Rattle.division_rules.specs.Rows.{Row}
-use Rattle.division_rules.specs.RemainderRows.{Memory, leads}
+use Rattle.division_rules.specs.RemainderRows.{TurnBefore, leads}
 use Rattle.division_rules.specs.RemainderRowsWithin.{rows_from_within}
 use Rattle.pseudo_division.specs.FieldOperations.{operations}
 use Rattle.subresultants.specs.Outcomes.{outcome_after, outcome_of}
 use Rattle.subresultants.specs.Turns.{turn_within}
 use Rattle.subresultants.specs.declared.outcome.Remainders.TheVariants.{Coprime, Common, TooWide}
-use Rattle.subresultants.specs.declared.turn.Turn.TheVariants.{Zero, Later}
+use Rattle.subresultants.specs.declared.turn.NextRow.TheVariants.{Zero, Later}
 use Rattle.subresultants.proofs.Outcomes.{outcome-too_wide, outcome-zero, outcome-last, outcome-later, outcome-end, leads-more}
 use Rattle.subresultants.proofs.RowTurns.{IsRowTurn, next_row_turn}
 
 -- f and g are the last of the rows so far, a turn of theirs follows, and the outcome of t and c is
 -- that of the rows so far and those of at most k turns more
-pub record IsSequence (p w v : ℕ) (chain : List (Row Polynomial)) (t c : Row Polynomial) (k : ℕ) (m : Memory (operations p)) (rows : List (Row Polynomial)) (ls : List Polynomial) : Type 0 where
+pub record IsSequence (p w v : ℕ) (chain : List (Row Polynomial)) (t c : Row Polynomial) (k : ℕ) (m : TurnBefore (operations p)) (rows : List (Row Polynomial)) (ls : List Polynomial) : Type 0 where
   pub made : List (Row Polynomial)
   pub f : Row Polynomial
   pub g : Row Polynomial
@@ -59,7 +59,7 @@ module _ (p w v : ℕ) (chain : List (Row Polynomial)) (t c : Row Polynomial) wh
       all : suc (degree_in v c.first) ≡ k - 0
       all = omega arith
 
-  module _ (k : ℕ) (m : Memory (operations p)) (rows : List (Row Polynomial)) (ls : List Polynomial) (s : IsSequence p w v chain t c k m rows ls) where
+  module _ (k : ℕ) (m : TurnBefore (operations p)) (rows : List (Row Polynomial)) (ls : List Polynomial) (s : IsSequence p w v chain t c k m rows ls) where
     count : length rows ≡ length s.made + 2
     count = ap length s.rows_are ∙ length-append s.made (s.f ∷ s.g ∷ [])
 

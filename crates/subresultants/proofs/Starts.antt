@@ -4,13 +4,13 @@ use Rattle.mono_words.specs.declared.mono.TheConstants.{VARS}
 use Rattle.polynomials.specs.Primes.{IsPrime}
 use Rattle.polynomials.specs.Polynomials.{Polynomial}
 use Rattle.polynomials.proofs.PolynomialRing.{CanonicalPolynomial}
-use Rattle.division_rules.specs.Rows.{Row}
+use Rattle.division_rules.specs.Rows.{Row, first_entries}
 use Rattle.division_rules.specs.Chains.{EachRow}
 use Rattle.division_rules.specs.PolynomialRows.{IsPolynomialRow, ArePolynomialRows}
 use Rattle.division_rules.proofs.Identity.{length-map_by}
 use Rattle.division_rules.proofs.PolynomialSetting.{polynomial_setting}
 use Rattle.division_rules.proofs.Up.{up_all, up, up_rows, terms-up_all, down-up, down-up_rows}
-use Rattle.row_laws.specs.Words.{first_entries, StartRemainderRows}
+use Rattle.row_laws.specs.Words.{StartRemainderRows}
 use Rattle.row_laws.proofs.Starts.{start_base, start_turn}
 use Rattle.subresultants.proofs.CofactorCounts.{HasCount}
 use Rattle.subresultants.proofs.RowTurns.{IsCanonicalTurn, IsRowTurn}

@@ -1,18 +1,14 @@
 -- Polynomials as rows over generators, or as rows without cofactors.
-use Rattle.std.specs.Prelude.{ℕ, Bool, true, false, List, [], ◌∷◌, ◌++◌, replicate}
+use Rattle.std.specs.Prelude.{ℕ, Bool, true, false, List, []}
 use Rattle.mono_words.specs.declared.mono.TheConstants.{VARS}
 use Rattle.polynomials.specs.Polynomials.{Polynomial, one_of}
 use Rattle.division_rules.specs.Rows.{Row, plain, plains}
-use Rattle.division_rules.specs.Units.{unit_rows}
+use Rattle.division_rules.specs.Units.{unit_row, unit_rows}
 use Rattle.pseudo_division.specs.FieldOperations.{operations}
-
--- the cofactors of a generator: 1 at itself, and 0 at those before it and behind it
-abbrev pub unit_cofactors : ℕ → ℕ → List Polynomial
-unit_cofactors before behind = replicate before [] ++ one_of VARS ∷ replicate behind []
 
 -- f as a row: with the cofactors of a generator, or without any
 abbrev pub generator_row : Bool → ℕ → ℕ → Polynomial → Row Polynomial
-generator_row true before behind f = record { first = f; cofactors = unit_cofactors before behind }
+generator_row true before behind f = unit_row [] (one_of VARS) before behind f
 generator_row false before behind f = plain f
 
 -- the last generators as rows, where others stand before them

@@ -2,7 +2,7 @@
 use Rattle.std.specs.Prelude.{ℕ, suc, Bool, List, [], ◌∷◌, ◌++◌, length, drop, Option, Some, None}
 use Rattle.polynomials.specs.Polynomials.{Polynomial}
 use Rattle.division_rules.specs.Rows.{Row}
-use Rattle.division_rules.specs.RemainderRows.{Rows, leads}
+use Rattle.division_rules.specs.RemainderRows.{LaterRows, leads}
 use Rattle.division_rules.specs.RemainderRowsWithin.{remainder_rows_within}
 use Rattle.pseudo_division.specs.FieldOperations.{operations}
 use Rattle.subresultants.specs.Generators.{generator_row, generator_rows}
@@ -20,7 +20,7 @@ ended rows None = Coprime rows
 ended rows (Some z) = Common rows z
 
 -- the rows so far with those that follow, where each product fits
-abbrev pub outcome_after : ℕ → ℕ → List (Row Polynomial) → Option (Rows Polynomial) → Remainders
+abbrev pub outcome_after : ℕ → ℕ → List (Row Polynomial) → Option (LaterRows Polynomial) → Remainders
 outcome_after p v before None = TooWide
 outcome_after p v before (Some rows) = ended (with_leads p v (before ++ rows.later)) rows.last
 

@@ -1,7 +1,7 @@
-ghost use Rattle.std.specs.Prelude.{◌≡◌, ◌≢◌, ◌↔◌, [], IfOk, IsTrue};
+ghost use Rattle.std.specs.Prelude.{◌≡◌, ◌≢◌, ◌↔◌, [], IfOk, IsTrue, unwrap_or};
 ghost use Rattle.polynomials.specs.Polynomials.{IsPolynomial, ArePolynomials, one_of};
 ghost use Rattle.division_rules.specs.PolynomialRows.{IsPolynomialRow};
-ghost use Rattle.division_rules.specs.RemainderRows.{or_else, quotients, divided};
+ghost use Rattle.division_rules.specs.RemainderRows.{quotients, divided};
 ghost use Rattle.pseudo_division.specs.FieldOperations.{operations};
 
 use mono_words::VARS;
@@ -15,7 +15,7 @@ pub fn divided(alloc: Global, w: &Work, row: Row, b: &Poly) -> Result<Row, Alloc
     requires row { IsPolynomialRow w.now.field VARS row }
     requires divisor { IsPolynomial w.now.field VARS b.now }
     requires nonzero { b.now ≢ [] }
-    ensures { IfOk result (λ r. r ≡ or_else (divided (operations w.now.field) w.now.width b.now row) row) }
+    ensures { IfOk result (λ r. r ≡ unwrap_or (divided (operations w.now.field) w.now.width b.now row) row) }
 {
     // Tells that the modulus is prime.
     let _ = w.field.prime();

@@ -1,12 +1,12 @@
-ghost use Rattle.std.specs.Prelude.{◌≡◌, ◌≢◌, ◌<◌, suc, [], IfOk, IfSome};
+ghost use Rattle.std.specs.Prelude.{◌≡◌, ◌≢◌, ◌<◌, suc, [], IfOk, IfSome, unwrap_or};
 ghost use Rattle.polynomials.specs.Polynomials.{IsPolynomial, negative_of};
 ghost use Rattle.division_rules.specs.Operations.{sign};
 ghost use Rattle.division_rules.specs.PolynomialRows.{IsPolynomialRow};
 ghost use Rattle.division_rules.specs.Quotients.{quotient_within};
-ghost use Rattle.division_rules.specs.RemainderRows.{or_else};
 ghost use Rattle.division_rules.specs.Within.{and_then, times_within};
+ghost use Rattle.division_rules.specs.RemainderRowsWithin.{later_psi_within, later_beta_within};
 ghost use Rattle.pseudo_division.specs.FieldOperations.{operations};
-ghost use Rattle.subresultants.specs.Turns.{IsMemoryOver, divisors_within, later_psi, later_beta};
+ghost use Rattle.subresultants.specs.Turns.{IsMemoryOver, divisors_within};
 
 use crate::divided::is_one;
 use mono_words::VARS;
@@ -16,7 +16,7 @@ use sparse_poly::{Poly, Work};
 use std::alloc::{AllocError, Global};
 
 /// Psi of the turn before and by how much the degree fell in it; `None` in the first turn.
-pub type Memory = Option<(Poly, u16)>;
+pub type TurnBefore = Option<(Poly, u16)>;
 
 /// Psi and beta of the turn in which the degree falls by `fall` from the row `f`; `None` where a
 /// product doesn't fit the width.
@@ -24,7 +24,7 @@ pub fn divisors(
     alloc: Global,
     w: &Work,
     v: usize,
-    memory: &Memory,
+    memory: &TurnBefore,
     f: &Row,
     fall: u16,
 ) -> Result<Option<(Poly, Poly)>, AllocError>
@@ -85,8 +85,8 @@ fn later_divisors(
     requires some { l.now ≢ [] }
     requires before { IsPolynomial w.now.field VARS before.now.0 }
     requires before_some { before.now.0 ≢ [] }
-    ensures value { IfOk result (λ r. r ≡ and_then (later_psi w.now.field w.now.width l.now before.now)
-        (λ q. and_then (later_beta w.now.field w.now.width l.now q fall) (λ b. Some (q, b)))) }
+    ensures value { IfOk result (λ r. r ≡ and_then (later_psi_within (operations w.now.field) w.now.width l.now before.now)
+        (λ q. and_then (later_beta_within (operations w.now.field) w.now.width l.now q fall) (λ b. Some (q, b)))) }
     ensures over { IfOk result (λ r. IfSome r (λ d. IsPolynomial w.now.field VARS d.1)) }
     ensures nonzero { IfOk result (λ r. IfSome r (λ d. d.1 ≢ [])) }
 {
@@ -108,7 +108,7 @@ fn psi(alloc: Global, w: &Work, l: &Poly, before: &(Poly, u16)) -> Result<Option
     requires some { l.now ≢ [] }
     requires before { IsPolynomial w.now.field VARS before.now.0 }
     requires before_some { before.now.0 ≢ [] }
-    ensures value { IfOk result (λ r. r ≡ later_psi w.now.field w.now.width l.now before.now) }
+    ensures value { IfOk result (λ r. r ≡ later_psi_within (operations w.now.field) w.now.width l.now before.now) }
     ensures over { IfOk result (λ r. IfSome r (IsPolynomial w.now.field VARS)) }
     ensures nonzero { IfOk result (λ r. IfSome r (λ q. q ≢ [])) }
 {
@@ -130,7 +130,7 @@ fn quotient_or_itself(alloc: Global, w: &Work, a: Poly, b: &Poly) -> Result<Poly
     requires right { IsPolynomial w.now.field VARS b.now }
     requires some { a ≢ [] }
     requires nonzero { b.now ≢ [] }
-    ensures value { IfOk result (λ r. r ≡ or_else (quotient_within w.now.field w.now.width a b.now) a) }
+    ensures value { IfOk result (λ r. r ≡ unwrap_or (quotient_within w.now.field w.now.width a b.now) a) }
     ensures over { IfOk result (IsPolynomial w.now.field VARS) }
     ensures nonzero { IfOk result (λ q. q ≢ []) }
 {
@@ -156,7 +156,7 @@ fn beta(
 ) -> Result<Option<Poly>, AllocError>
     requires lead { IsPolynomial w.now.field VARS l.now }
     requires psi { IsPolynomial w.now.field VARS psi.now }
-    ensures value { IfOk result (λ r. r ≡ later_beta w.now.field w.now.width l.now psi.now fall) }
+    ensures value { IfOk result (λ r. r ≡ later_beta_within (operations w.now.field) w.now.width l.now psi.now fall) }
     ensures over { IfOk result (λ r. IfSome r (IsPolynomial w.now.field VARS)) }
 {
     match power(alloc, *w, psi, fall)? {

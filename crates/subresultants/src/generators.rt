@@ -1,5 +1,8 @@
-ghost use Rattle.std.specs.Prelude.{◌≡◌, ◌≤◌, [], ◌++◌, length, replicate, IfOk, OnOk};
-ghost use Rattle.subresultants.specs.Generators.{unit_cofactors, generator_row, generator_rows};
+ghost use Rattle.std.specs.Prelude.{◌≡◌, ◌<◌, ◌+◌, ◌^◌, [], ◌++◌, length, replicate, IfOk, OnOk};
+ghost use Rattle.polynomials.specs.Polynomials.{IsPolynomial, ArePolynomials, one_of};
+ghost use Rattle.division_rules.specs.PolynomialRows.{IsPolynomialRow, ArePolynomialRows};
+ghost use Rattle.division_rules.specs.Units.{unit_cofactors};
+ghost use Rattle.subresultants.specs.Generators.{generator_row, generator_rows};
 
 use mono_words::VARS;
 use pseudo_division::{Row, Rows};
@@ -16,7 +19,9 @@ pub fn generator_row(
     before: usize,
     behind: usize,
 ) -> Result<Row, AllocError>
-    ensures { IfOk result (λ r. r ≡ generator_row cofactors before behind f.now) }
+    requires { IsPolynomial w.now.field VARS f.now }
+    ensures value { IfOk result (λ r. r ≡ generator_row cofactors before behind f.now) }
+    ensures over { IfOk result (IsPolynomialRow w.now.field VARS) }
 {
     let first = f.copy()?;
     let cofactors = if cofactors {
@@ -34,7 +39,7 @@ fn unit_cofactors(
     before: usize,
     behind: usize,
 ) -> Result<Polys, AllocError>
-    ensures { IfOk result (λ r. r ≡ unit_cofactors before behind) }
+    ensures { IfOk result (λ r. r ≡ unit_cofactors [] (one_of VARS) before behind) }
 {
     // Tells that 1 is a residue.
     let _ = w.field.prime();
@@ -55,20 +60,23 @@ fn push_zeros(alloc: Global, list: &mut Polys, count: usize) -> Result<(), Alloc
     Ok(())
 }
 
-/// The last generators as rows, where two stand before them.
+/// The last generators as rows, where as many as `before` stand before them.
 pub fn generator_rows(
     alloc: Global,
     w: &Work,
     list: &Polys,
     cofactors: bool,
+    before: usize,
 ) -> Result<Rows, AllocError>
-    requires { length list.now ≤ VARS }
-    ensures { IfOk result (λ r. r ≡ generator_rows w.now.field cofactors 2 list.now) }
+    requires over { ArePolynomials w.now.field VARS list.now }
+    requires places { before + length list.now < 2 ^ 32 }
+    ensures value { IfOk result (λ r. r ≡ generator_rows w.now.field cofactors before list.now) }
+    ensures over { IfOk result (ArePolynomialRows w.now.field VARS) }
 {
     let mut rows = Rows::new(alloc);
     let count = list.count();
     for i in 0..count {
-        let row = generator_row(alloc, w, list.at(i), cofactors, i + 2, count - i - 1)?;
+        let row = generator_row(alloc, w, list.at(i), cofactors, before + i, count - i - 1)?;
         rows.push(row)?;
     }
     Ok(rows)

@@ -9,6 +9,7 @@ mod outcome;
 mod sequence;
 mod turn;
 
+pub use generators::{generator_row, generator_rows};
 pub use outcome::{RemainderRows, Remainders};
 pub use sequence::remainder_rows;
 

@@ -4,15 +4,16 @@ ghost use Rattle.division_rules.specs.Chains.{EachRow};
 ghost use Rattle.division_rules.specs.PolynomialRows.{IsPolynomialRow, ArePolynomialRows};
 ghost use Rattle.division_rules.specs.Units.{IsCombinationOf};
 ghost use Rattle.pseudo_division.specs.FieldOperations.{operations};
-ghost use Rattle.row_laws.specs.Words.{first_entries, StartRemainderRows};
+ghost use Rattle.row_laws.specs.Words.{StartRemainderRows};
+ghost use Rattle.division_rules.specs.Rows.{first_entries};
 ghost use Rattle.subresultants.specs.Cofactors.{IfCommon, HasCofactorSteps, VanishesByLeads, ShowsLeadWhereReduced};
 ghost use Rattle.subresultants.specs.Outcomes.{outcome_of, remainders_of};
 ghost use Rattle.subresultants.specs.Shape.{EachRemainderRow, IfRows, HasFallingDegrees, IsReducedFromRowOne, HasNonzeroLeads, IfCoprime, EndsWithItsLead, VanishesWithGenerators};
 
-use crate::divisors::Memory;
+use crate::divisors::TurnBefore;
 use crate::generators::{generator_row, generator_rows};
 use crate::outcome::{RemainderRows, Remainders};
-use crate::turn::{Turn, turn_after};
+use crate::turn::{NextRow, turn_after};
 use mono_words::VARS;
 use pseudo_division::{Row, Rows};
 use sparse_poly::{Poly, Polys, Work};
@@ -66,7 +67,7 @@ pub fn remainder_rows(
     let count = below.count();
     let first = generator_row(alloc, w, t, cofactors, 1, count)?;
     let second = generator_row(alloc, w, c, cofactors, 0, count + 1)?;
-    let chain = generator_rows(alloc, w, below, cofactors)?;
+    let chain = generator_rows(alloc, w, below, cofactors, 2)?;
     rows_of(alloc, w, v, &chain, first, second)
 }
 
@@ -95,7 +96,7 @@ fn rows_of(
     let mut rows = Rows::new(alloc);
     rows.push(first)?;
     rows.push(second)?;
-    let mut memory: Memory = None;
+    let mut memory: TurnBefore = None;
     for _ in 0..turns {
         let last = rows.count() - 1;
         match turn_after(
@@ -108,10 +109,10 @@ fn rows_of(
             rows.at(last),
         )? {
             None => return Ok(Remainders::TooWide),
-            Some(Turn::Zero(row)) => {
+            Some(NextRow::Zero(row)) => {
                 return Ok(Remainders::Common(RemainderRows { rows, leads }, row));
             }
-            Some(Turn::Later(row, next)) => {
+            Some(NextRow::Later(row, next)) => {
                 let degree = row.first.degree_in(v);
                 leads.push(row.first.lead_in(v)?)?;
                 rows.push(row)?;

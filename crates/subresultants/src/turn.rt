@@ -9,7 +9,7 @@ ghost use Rattle.pseudo_division.specs.FieldOperations.{operations};
 ghost use Rattle.subresultants.specs.Turns.{IsMemoryOver, divided_turn, turn_within};
 
 use crate::divided::divided;
-use crate::divisors::{Memory, divisors};
+use crate::divisors::{TurnBefore, divisors};
 use mono_words::VARS;
 use pseudo_division::{Row, Rows, prem_full, reduce_rows};
 use sparse_poly::{Poly, Work};
@@ -17,7 +17,7 @@ use std::alloc::{AllocError, Global};
 
 /// What a turn makes.
 #[derive(Drop)]
-pub enum Turn {
+pub enum NextRow {
     /// A row whose first entry is 0.
     Zero(Row),
     /// A further row, with psi and the fall of degree of this turn.
@@ -30,10 +30,10 @@ pub fn turn_after(
     w: &Work,
     v: usize,
     chain: &Rows,
-    memory: &Memory,
+    memory: &TurnBefore,
     f: &Row,
     g: &Row,
-) -> Result<Option<Turn>, AllocError>
+) -> Result<Option<NextRow>, AllocError>
     requires variable { v < VARS }
     requires chain { ArePolynomialRows w.now.field VARS chain.now }
     requires triangular { AreTriangular chain.now }
@@ -103,11 +103,11 @@ fn divided_turn(
     alloc: Global,
     w: &Work,
     v: usize,
-    memory: &Memory,
+    memory: &TurnBefore,
     f: &Row,
     g: &Row,
     row: Row,
-) -> Result<Option<Turn>, AllocError>
+) -> Result<Option<NextRow>, AllocError>
     requires variable { v < VARS }
     requires left { IsPolynomialRow w.now.field VARS f.now }
     requires some { f.now.first ≢ [] }
@@ -118,14 +118,14 @@ fn divided_turn(
         r ≡ divided_turn w.now.field w.now.width v memory.now f.now g.now row) }
 {
     if row.first.is_zero() {
-        return Ok(Some(Turn::Zero(row)));
+        return Ok(Some(NextRow::Zero(row)));
     }
     let fall = f.first.degree_in(v) - g.first.degree_in(v);
     match divisors(alloc, w, v, memory, f, fall)? {
         None => Ok(None),
         Some((psi, beta)) => {
             let quotient = divided(alloc, w, row, &beta)?;
-            Ok(Some(Turn::Later(quotient, (psi, fall))))
+            Ok(Some(NextRow::Later(quotient, (psi, fall))))
         }
     }
 }

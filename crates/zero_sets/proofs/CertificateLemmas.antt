@@ -7,7 +7,8 @@ use Rattle.polynomials.proofs.RingLaws.{nil-plus, times-nil}
 use Rattle.polynomials.proofs.Values.{value-sum_of, value-product_of}
 use Rattle.zero_sets.specs.Domains.{Tables, IsFiniteDomain, IsPoint, value_at}
 use Rattle.zero_sets.specs.ZeroSets.{InZeroSet, members_below, is_variable_below}
-use Rattle.zero_sets.specs.Certificates.{Certificate, CertifiesInitial, combination}
+use Rattle.zero_sets.specs.Certificates.{Certificate, CertifiesInitial}
+use Rattle.polynomials.specs.Sums.{combination}
 use Rattle.zero_sets.proofs.TableRings.{Element, table_ring, has_characteristic, coordinates}
 use Rattle.zero_sets.proofs.ValueLaws.{zero_number, zero_element}
 

@@ -1,14 +1,9 @@
 -- Certificates that the initials of a triangular set are regular.
 use Rattle.std.specs.Prelude.{◌≡◌, ◌≢◌, ℕ, true, false, List, [], ◌∷◌, length, Option, Some, None}
 use Rattle.polynomials.specs.Polynomials.{Polynomial, sum_of, product_of}
+use Rattle.polynomials.specs.Sums.{combination}
 use Rattle.polynomials.specs.Views.{main_var, initial_of, is_constant, IsFreeOf}
 use Rattle.zero_sets.specs.ZeroSets.{member_in, members_below}
-
--- the sum of the cofactors times the generators
-abbrev pub combination : ℕ → List Polynomial → List Polynomial → Polynomial
-combination p [] gs = []
-combination p (c ∷ cs) [] = []
-combination p (c ∷ cs) (g ∷ gs) = sum_of p (product_of p c g) (combination p cs gs)
 
 -- a main variable, a cofactor of its initial, one for each polynomial below it, and what they make
 pub record Certificate : Type 0 where

@@ -2,6 +2,7 @@
 use Rattle.std.specs.Prelude.{◌≡◌, ◌≢◌, ℕ, suc, ◌≤◌, Bool, true, false, eqb, ltb, List, [], ◌∷◌, map, Option, Some, None}
 use Rattle.polynomials.specs.Polynomials.{Polynomial}
 use Rattle.polynomials.specs.Views.{main_var, initial_of}
+pub use Rattle.polynomials.specs.Triangular.{IsTriangularFrom, IsTriangular}
 use Rattle.zero_sets.specs.Domains.{Tables, value_at}
 
 -- the point makes each of them zero
@@ -17,15 +18,6 @@ AreNonZero r xs (f ∷ fs) = (value_at r xs f ≢ r.nil) × AreNonZero r xs fs
 -- the quasi-component of a triangular set: its zeros that make no initial zero
 abbrev pub InQuasiComponent : Tables → List ℕ → List Polynomial → Type 0
 InQuasiComponent r xs chain = InZeroSet r xs chain × AreNonZero r xs (map initial_of chain)
-
--- none is constant, and the main variables strictly increase from at least v
-abbrev pub IsTriangularFrom : ℕ → List Polynomial → Type 0
-IsTriangularFrom v [] = Unit {0}
-IsTriangularFrom v (t ∷ chain) = (u : ℕ) × (main_var t ≡ Some u) × (v ≤ u) × IsTriangularFrom (suc u) chain
-
--- a triangular set: non-constant polynomials with strictly increasing main variables
-abbrev pub IsTriangular : List Polynomial → Type 0
-IsTriangular chain = IsTriangularFrom 0 chain
 
 -- the variable is v
 abbrev pub is_variable : ℕ → Option ℕ → Bool

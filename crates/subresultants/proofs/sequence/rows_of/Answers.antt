@@ -6,9 +6,8 @@ use Rattle.division_rules.specs.Operations.{lead}
 use Rattle.division_rules.specs.Rows.{Row}
 use Rattle.division_rules.specs.Chains.{EachRow}
 use Rattle.pseudo_division.specs.FieldOperations.{operations}
-use Rattle.row_laws.proofs.Starts.{triangular_rows}
 use Rattle.subresultants.specs.Turns.{turn_within}
-use Rattle.subresultants.specs.declared.turn.Turn.TheVariants.{Zero, Later}
+use Rattle.subresultants.specs.declared.turn.NextRow.TheVariants.{Zero, Later}
 use Rattle.subresultants.proofs.RowTurns.{first_canonical, second_canonical, first_some, second_high, second_less, first_count, second_count, memory_over}
 use Rattle.subresultants.proofs.Sequences.{turn_left, sequence_starts, row_turn, sequence-end, sequence-too_wide, sequence-zero, sequence-last, sequence-later}
 use Rattle.subresultants.proofs.Starts.{start_row_turn}
@@ -23,7 +22,7 @@ loop-init c =
     (start_row_turn c.args.w.now.field c.args.v c.prime.ensures.prime (length c.args.first.cofactors) c.args.chain.now c.requires.chain c.args.first c.args.second c.requires.first c.requires.second c.requires.start c.requires.cofactors)
 
 pub turn_after-requires-clause-triangular : goal.turn_after-requires-clause-triangular
-turn_after-requires-clause-triangular c = triangular_rows 0 c.args.chain.now c.requires.start.triangular
+turn_after-requires-clause-triangular c = c.requires.start.triangular
 
 pub turn_after-requires-clause-left : goal.turn_after-requires-clause-left
 turn_after-requires-clause-left c = first_canonical c.args.w.now.field c.args.v (length c.args.first.cofactors) c.args.chain.now c.loop.memory c.at.result.now c.at-in-loop.result.now (row_turn c.args.w.now.field c.args.w.now.width c.args.v c.args.chain.now c.args.first c.args.second (c.degree_in.result + 1 - c.loop.counter) c.loop.memory c.loop.rows c.loop.leads c.loop.invariant c.count-last.result c.count-last.ensures c.at.result.now c.at-in-loop.result.now c.at.ensures c.at-in-loop.ensures)
