@@ -1,5 +1,5 @@
 -- The steps of first cofactors, tried by computation on five sequences of remainder rows.
-use Rattle.std.proofs.Common.{◌≡◌, ◌≢◌, ℕ, zero, suc, ◌%◌, ◌<◌, List, [], ◌∷◌, ◌++◌, Any, Some, None, inl, refl, subst, arith}
+use Rattle.std.proofs.Common.{◌≡◌, ◌≢◌, ℕ, zero, suc, ◌%◌, ◌<◌, ◌≤◌, List, [], ◌∷◌, ◌++◌, Any, Some, None, inl, refl, subst, arith}
 use Rattle.std.proofs.lemmas.Option.{same_Some}
 use Rattle.polynomials.specs.Polynomials.{Polynomial, term}
 use Rattle.polynomials.specs.Views.{degree_in}
@@ -11,7 +11,7 @@ use Rattle.division_rules.specs.Rows.{Row}
 use Rattle.division_rules.specs.Cofactors.{first_cofactor, AreCofactorSteps}
 use Rattle.row_laws.specs.Words.{reduction_of}
 use Rattle.cofactor_laws.specs.RowsWithCofactors.{leads_from_c, row_of_c, row_of_t, rows_of_chain, rows_with_cofactors, EndWithZeroRow}
-use Rattle.cofactor_laws.specs.TriangularSets.{LacksMainAbove}
+use Rattle.row_laws.specs.Members.{LacksMainFrom}
 
 abbrev row : Polynomial → List Polynomial → Row Polynomial
 row f cs = record { first = f; cofactors = cs }
@@ -122,10 +122,10 @@ multiplied_ends = record {
 }
 
 -- and so it is at 4 a x^2 + 3 b in the triangular set of both
-multiplied_lacks : LacksMainAbove 2 multiplied_c (multiplied_t ∷ [])
+multiplied_lacks : LacksMainFrom 3 multiplied_c (multiplied_t ∷ [])
 multiplied_lacks = ((λ u is less. absurd (no_less u (same_Some 2 u is) less)), tt)
   where
-    no_less : (u : ℕ) → 2 ≡ u → 2 < u → ⊥
+    no_less : (u : ℕ) → 2 ≡ u → 3 ≤ u → ⊥
     no_less u same less = omega (arith, same, less)
 
 -- modulo 5 in x < y: y^3 + 4 y^2 and x y^2 + y + 4 below x^2, with a cofactor that reduces to 0

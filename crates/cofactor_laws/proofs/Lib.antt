@@ -6,3 +6,4 @@ pub mod LeadPoints
 pub mod ReducedCofactors
 pub mod ZeroRows
 pub mod SetZeros
+pub mod LastRows

@@ -25,6 +25,7 @@ use Rattle.division_rules.proofs.Up.{down_canonical, down_all_canonical}
 use Rattle.division_rules.proofs.RowsShape.{last_occurs}
 use Rattle.row_laws.specs.Words.{reduction_of, AreBelow, IsReducedBy, StartRemainderRows}
 use Rattle.row_laws.specs.Degrees.{IsRowFreeOf}
+use Rattle.row_laws.proofs.CombinationRows.{combinations_are_kept, canonical_rows}
 use Rattle.row_laws.proofs.FallingRows.{remainder_rows_fall, remainder_rows_are_free}
 use Rattle.row_laws.proofs.Lifts.{lifted-reduction}
 use Rattle.row_laws.proofs.ReducedRows.{reduced_by_more}
@@ -43,7 +44,7 @@ main_variables_behind u v [] more t main (m, is, up_to, later) = subst (λ x. Is
 main_variables_behind u v (s ∷ chain) more t main (m, is, up_to, later) = main_variables_behind (suc m) v chain more t main later
 
 -- no polynomial with a lesser main variable has x
-chain_free : (v x : ℕ) (chain : List Polynomial) → v < x → AreBelow v chain → AreFreeOf x chain
+pub chain_free : (v x : ℕ) (chain : List Polynomial) → v < x → AreBelow v chain → AreFreeOf x chain
 chain_free v x [] less below = tt
 chain_free v x (t ∷ chain) less below =
     let smaller = variable_below v (main_var t) below.0 in
@@ -59,38 +60,53 @@ cofactor_free p n x z free = go z.cofactors free.1
 
 module _ (p n : ℕ) (prime : IsPrime p) where
   -- 0 and 1 have no variable
-  zeros_free : (x k : ℕ) → AreFreeOf x (replicate k [])
+  pub zeros_free : (x k : ℕ) → AreFreeOf x (replicate k [])
   zeros_free x zero = tt
   zeros_free x (suc k) = (refl, zeros_free x k)
 
-  unit_free : (x before behind : ℕ) → AreFreeOf x (replicate before [] ++ one_of n ∷ replicate behind [])
+  pub unit_free : (x before behind : ℕ) → AreFreeOf x (replicate before [] ++ one_of n ∷ replicate behind [])
   unit_free x zero behind = (one_is_free x n, zeros_free x behind)
   unit_free x (suc before) behind = (refl, unit_free x before behind)
 
-  rows_free : (x before : ℕ) (fs : List Polynomial) → AreFreeOf x fs → EachRow (IsRowFreeOf x) (unit_rows (list_operations p n) before fs)
+  pub rows_free : (x before : ℕ) (fs : List Polynomial) → AreFreeOf x fs → EachRow (IsRowFreeOf x) (unit_rows (list_operations p n) before fs)
   rows_free x before [] free = tt
   rows_free x before (f ∷ fs) free = ((free.0, unit_free x before (length fs)), rows_free x (suc before) fs free.1)
+
+-- the chain as rows starts remainder rows where the chain does
+pub start_rows : (p n v : ℕ) (c t : Polynomial) (chain : List Polynomial) → StartRemainderRows v chain t c → StartRemainderRows v (first_entries (rows_of_chain p n chain)) t c
+start_rows p n v c t chain start = subst (λ fs. StartRemainderRows v fs t c) (sym (first_entries-unit_rows p n 2 chain)) start
+
+module _ (p n : ℕ) (prime : IsPrime p) (v : ℕ) (c t : Polynomial) (chain : List Polynomial) where
+  -- canonical polynomials as rows are canonical
+  pub are_rows : ArePolynomials p n (c ∷ t ∷ chain) → ArePolynomialRows p n (row_of_t n t chain ∷ row_of_c n c chain ∷ rows_of_chain p n chain)
+  are_rows are =
+      let units = canonical_rows p n prime (c ∷ t ∷ chain) are (unit_rows (list_operations p n) 0 (c ∷ t ∷ chain)) (combinations_are_kept p n (c ∷ t ∷ chain) prime are).units in
+      (units.1.0, (units.0, units.1.1))
+
+  -- no entry of the rows has a variable from v on that c and t don't have
+  pub rows_lack : (x : ℕ) → v < x → AreBelow v chain → IsFreeOf x t → IsFreeOf x c → EachRow (IsRowFreeOf x) (row_of_t n t chain ∷ row_of_c n c chain ∷ rows_of_chain p n chain)
+  rows_lack x less below free_t free_c = ((free_t, unit_free p n prime x 1 (length chain)), ((free_c, unit_free p n prime x 0 (suc (length chain))), rows_free p n prime x 2 chain (chain_free v x chain less below)))
 
 module _ (p n w v : ℕ) (c t : Polynomial) (chain : List Polynomial) (z : Row Polynomial) (ends : EndWithZeroRow p n w v c t chain z) where
   abbrev a : Polynomial
   a = first_cofactor (list_operations p n) z
 
-  pub start_rows : StartRemainderRows v (first_entries (rows_of_chain p n chain)) t c
-  start_rows = subst (λ fs. StartRemainderRows v fs t c) (sym (first_entries-unit_rows p n 2 chain)) ends.start
+  abbrev starts : StartRemainderRows v (first_entries (rows_of_chain p n chain)) t c
+  starts = start_rows p n v c t chain ends.start
 
-  pub are_rows : ArePolynomialRows p n (row_of_t n t chain ∷ row_of_c n c chain ∷ rows_of_chain p n chain)
-  are_rows = (subst (IsPolynomialRow p n) (down-second p n ends.prime w v c t chain ends.canonical ends.start) (down_canonical p n ends.prime.many (second p n ends.prime w v c t chain ends.canonical ends.start)), (subst (IsPolynomialRow p n) (down-first p n ends.prime w v c t chain ends.canonical ends.start) (down_canonical p n ends.prime.many (first p n ends.prime w v c t chain ends.canonical ends.start)), subst (ArePolynomialRows p n) (down-chain_units p n ends.prime w v c t chain ends.canonical ends.start) (down_all_canonical p n ends.prime.many (chain_units p n ends.prime w v c t chain ends.canonical ends.start))))
+  abbrev are : ArePolynomialRows p n (row_of_t n t chain ∷ row_of_c n c chain ∷ rows_of_chain p n chain)
+  are = are_rows p n ends.prime v c t chain ends.canonical
 
   -- the cofactor has less degree than t
   less_than_t : degree_in v a < degree_in v t
   less_than_t =
       let sum = last_cofactor_has_degree p n w v c t chain z ends in
-      let occurs = last_occurs (list_operations p n) v (row_of_c n c chain) (rows_with_cofactors p n w v c t chain).later z (subst (DegreesFall (list_operations p n) v (row_of_c n c chain) (rows_with_cofactors p n w v c t chain).later) ends.last (remainder_rows_fall p n w v (rows_of_chain p n chain) (row_of_t n t chain) (row_of_c n c chain) ends.prime are_rows start_rows).falls) in
+      let occurs = last_occurs (list_operations p n) v (row_of_c n c chain) (rows_with_cofactors p n w v c t chain).later z (subst (DegreesFall (list_operations p n) v (row_of_c n c chain) (rows_with_cofactors p n w v c t chain).later) ends.last (remainder_rows_fall p n w v (rows_of_chain p n chain) (row_of_t n t chain) (row_of_c n c chain) ends.prime are starts).falls) in
       omega (arith, sum, occurs)
 
   -- and lacks each greater variable that c lacks
   lacks_greater : (x : ℕ) → v < x → main_var t ≡ Some v → IsFreeOf x c → IsFreeOf x a
-  lacks_greater x less main free_c = cofactor_free p n x z (subst (IfRow (IsRowFreeOf x)) ends.last (remainder_rows_are_free p n w v x (rows_of_chain p n chain) (row_of_t n t chain) (row_of_c n c chain) ends.prime are_rows start_rows (λ same. omega (arith, less, same)) ((free_above_main_var v x t main less, unit_free p n ends.prime x 1 (length chain)), ((free_c, unit_free p n ends.prime x 0 (suc (length chain))), rows_free p n ends.prime x 2 chain (chain_free v x chain less ends.start.below)))).1)
+  lacks_greater x less main free_c = cofactor_free p n x z (subst (IfRow (IsRowFreeOf x)) ends.last (remainder_rows_are_free p n w v x (rows_of_chain p n chain) (row_of_t n t chain) (row_of_c n c chain) ends.prime are starts (λ same. omega (arith, less, same)) (rows_lack p n ends.prime v c t chain x less ends.start.below (free_above_main_var v x t main less) free_c)).1)
 
   -- so it is reduced by what follows t
   reduced_behind : (u : ℕ) (more : List Polynomial) → v < u → main_var t ≡ Some v → IsTriangularFrom u more → IsFreeOfMain c more → IsReducedBy a more

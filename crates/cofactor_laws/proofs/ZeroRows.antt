@@ -60,7 +60,7 @@ zero_row_splits_zeros p n w v r xs c t chain z ends domain point zeros = split (
     a = first_cofactor (canonical_operations p n ends.prime.many) y
 
     is_zero : z.first ≡ []
-    is_zero = last_is_zero p n v (row_of_c n c chain) (rows_with_cofactors p n w v c t chain).later z (subst (DegreesFall (list_operations p n) v (row_of_c n c chain) (rows_with_cofactors p n w v c t chain).later) ends.last (remainder_rows_fall p n w v (rows_of_chain p n chain) (row_of_t n t chain) (row_of_c n c chain) ends.prime (are_rows p n w v c t chain z ends) (start_rows p n w v c t chain z ends)).falls)
+    is_zero = last_is_zero p n v (row_of_c n c chain) (rows_with_cofactors p n w v c t chain).later z (subst (DegreesFall (list_operations p n) v (row_of_c n c chain) (rows_with_cofactors p n w v c t chain).later) ends.last (remainder_rows_fall p n w v (rows_of_chain p n chain) (row_of_t n t chain) (row_of_c n c chain) ends.prime (are_rows p n ends.prime v c t chain ends.canonical) (start_rows p n v c t chain ends.start)).falls)
 
     first_is : a.0 ≡ first_cofactor (list_operations p n) z
     first_is = terms-first_cofactor p n ends.prime.many y ∙ ap (first_cofactor (list_operations p n)) (down-up p n ends.prime.many z over.canonical)

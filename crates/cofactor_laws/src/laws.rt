@@ -1,5 +1,5 @@
 ghost use Rattle.cofactor_laws.specs.Laws.{RowsWithCofactorsAreCombinations, CofactorsGrowByFalls, LastCofactorHasDegree, CofactorLeadIsZeroByLeads, ReducedCofactorShowsLead, ZeroRowSplitsZeros};
-ghost use Rattle.cofactor_laws.specs.TriangularSets.{ZeroRowsShowZeros};
+ghost use Rattle.cofactor_laws.specs.TriangularSets.{LastRowsAreReduced, ZeroRowsShowZeros};
 
 /// Remainder rows with cofactors are combinations of the polynomials that they are made of.
 pub fn rows_with_cofactors_are_combinations()
@@ -34,4 +34,9 @@ pub fn zero_row_splits_zeros()
 /// What a zero row at a polynomial of a triangular set says about points of the quasi-component.
 pub fn zero_rows_show_zeros()
     ensures { ZeroRowsShowZeros }
+{}
+
+/// Where no zero row ends them, the last row at a polynomial of a triangular set is reduced by it.
+pub fn last_rows_are_reduced()
+    ensures { LastRowsAreReduced }
 {}

@@ -12,6 +12,16 @@ use Rattle.division_rules.proofs.Steps.{choose}
 use Rattle.division_rules.proofs.Identity.{combination-pseudo_remainder, combination-reduction, combination-divided}
 use Rattle.division_rules.proofs.Turns.{next_row_is, next_turn, next_beta_free_nonzero}
 
+-- what holds of the first and of each later row holds of the last
+pub last_of : {A : Type 0} (Q : Row A → Type 0) (g : Row A) (later : List (Row A)) → Q g → EachRow Q later → Q (last_row g later)
+last_of Q g [] h each = h
+last_of Q g (f ∷ later) h each = last_of Q f later each.0 each.1
+
+-- where no zero row follows it has the degree 0
+pub last_degree : {A : Type 0} (o : Operations A) (v : ℕ) (g : Row A) (later : List (Row A)) → DegreesFall o v g later None → o.views.degree v (last_row g later).first ≡ 0
+last_degree o v g [] falls = falls
+last_degree o v g (h ∷ later) falls = last_degree o v h later falls.2
+
 -- the row before a zero row has v
 pub last_occurs : {A : Type 0} (o : Operations A) (v : ℕ) (g : Row A) (later : List (Row A)) (z : Row A) → DegreesFall o v g later (Some z) → 1 ≤ o.views.degree v (last_row g later).first
 last_occurs o v g [] z falls = falls.0

@@ -74,6 +74,7 @@ pub fn times_all(
     requires factor { IsPolynomial w.now.field VARS l.now }
     requires over { ArePolynomials w.now.field VARS list.now }
     ensures value { IfOk result (λ r. r ≡ times_all_within (operations w.now.field) w.now.width l.now list.now) }
+    ensures over { IfOk result (λ r. IfSome r (ArePolynomials w.now.field VARS)) }
     ensures count { IfOk result (λ r. IfSome r (λ xs. length xs ≡ length list.now)) }
 {
     let mut entries = Polys::new(alloc);

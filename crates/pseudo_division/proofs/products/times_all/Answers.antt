@@ -1,8 +1,8 @@
 -- Each turn makes one more entry, or finds that one isn't there.
-use Rattle.std.proofs.Common.{◌≡◌, ◌+◌, ◌++◌, [], ◌∷◌, length, drop, List, Some, None, sym, subst, ap, ◌∙◌, length-append, arith}
+use Rattle.std.proofs.Common.{◌≡◌, ◌+◌, ◌++◌, [], ◌∷◌, length, drop, List, Option, Some, None, IfSome, sym, subst, ap, ◌∙◌, length-append, arith}
 use Rattle.mono_words.specs.declared.mono.TheConstants.{VARS}
-use Rattle.polynomials.specs.Polynomials.{Polynomial}
-use Rattle.polynomials.proofs.PolynomialLists.{IsPolynomial-at}
+use Rattle.polynomials.specs.Polynomials.{Polynomial, IsPolynomial, ArePolynomials}
+use Rattle.polynomials.proofs.PolynomialLists.{IsPolynomial-at, ArePolynomials-append}
 use Rattle.division_rules.specs.Within.{times_within, times_all_within}
 use Rattle.pseudo_division.specs.FieldOperations.{operations}
 use Rattle.pseudo_division.proofs.Lists.{IsMade}
@@ -24,4 +24,5 @@ loop-i-preserved c =
       subst (λ (xs : List Polynomial). IsMade (times_all_within (operations c.args.w.now.field) c.args.w.now.width c.args.l.now c.args.list.now) xs (times_all_within (operations c.args.w.now.field) c.args.w.now.width c.args.l.now (drop (c.loop-i.i + 1) c.args.list.now))) (sym whole)
           (times_all_more (operations c.args.w.now.field) c.args.w.now.width c.args.l.now c.args.list.now c.loop-i.i c.at-a.result.now c.at-a.ensures c.loop-i.entries c.in-Some.entry some c.loop-i.invariant.0),
       (let lengths = ap length whole ∙ length-append c.loop-i.entries (c.in-Some.entry ∷ []) in let before = c.loop-i.invariant.1 in omega arith),
+      subst (ArePolynomials c.args.w.now.field VARS) (sym whole) (ArePolynomials-append c.args.w.now.field VARS c.loop-i.entries (c.in-Some.entry ∷ []) c.loop-i.invariant.2 (subst (λ (o : Option Polynomial). IfSome o (IsPolynomial c.args.w.now.field VARS)) c.in-Some.is c.in_ok-times.ensures.over, tt)),
     )
