@@ -1,5 +1,5 @@
 -- Lists of zeros and rows of generators, made one by one.
-use Rattle.std.proofs.Common.{◌≡◌, ◌+◌, ◌-◌, ◌<◌, ℕ, zero, suc, Bool, true, false, List, [], ◌∷◌, ◌++◌, drop, length, replicate, Some, refl, sym, ap, ap₂, ◌∙◌, append_assoc, length-drop, length-append, arith}
+use Rattle.std.proofs.Common.{◌≡◌, ◌+◌, ◌-◌, ◌<◌, ℕ, zero, suc, Bool, true, false, List, [], ◌∷◌, ◌++◌, drop, length, replicate, Some, refl, sym, ap, ap₂, subst, ◌∙◌, append_assoc, length-drop, length-append, arith}
 use Rattle.std.specs.List.{slice_get}
 use Rattle.std.proofs.lemmas.List.{length-replicate}
 use Rattle.mono_words.specs.declared.mono.TheConstants.{VARS}
@@ -7,6 +7,7 @@ use Rattle.polynomials.specs.Polynomials.{Polynomial, IsPolynomial, ArePolynomia
 use Rattle.polynomials.proofs.Canonical.{IsPolynomial-one_of}
 use Rattle.division_rules.specs.Rows.{Row, first_entries}
 use Rattle.division_rules.specs.Chains.{EachRow}
+use Rattle.division_rules.specs.Units.{unit_cofactors}
 use Rattle.division_rules.specs.PolynomialRows.{IsPolynomialRow, ArePolynomialRows}
 use Rattle.pseudo_division.proofs.Lists.{drop_at}
 use Rattle.subresultants.specs.Generators.{generator_row, generator_rows}
@@ -28,23 +29,35 @@ generator_rows-first p true before f fs = refl
 generator_rows-first p false before f fs = refl
 
 -- one more row of a generator
-pub generator_rows_more : (p : ℕ) (cofactors : Bool) (fs : List Polynomial) (rows longer : List (Row Polynomial)) (i : ℕ) (f : Polynomial) (r : Row Polynomial) → slice_get fs i ≡ Some f → r ≡ generator_row cofactors (i + 2) (length fs - i - 1) f → longer ≡ rows ++ r ∷ [] → rows ++ generator_rows p cofactors (i + 2) (drop i fs) ≡ generator_rows p cofactors 2 fs → longer ++ generator_rows p cofactors ((i + 1) + 2) (drop (i + 1) fs) ≡ generator_rows p cofactors 2 fs
-generator_rows_more p cofactors fs rows longer i f r at same is whole =
-    ap (λ zs. zs ++ generator_rows p cofactors ((i + 1) + 2) rest) is
-    ∙ append_assoc rows (r ∷ []) (generator_rows p cofactors ((i + 1) + 2) rest)
-    ∙ ap₂ (λ z j. rows ++ (z ∷ generator_rows p cofactors j rest)) (same ∙ ap (λ k. generator_row cofactors (i + 2) k f) count) place
-    ∙ ap (λ zs. rows ++ zs) (sym (generator_rows-first p cofactors (i + 2) f rest))
-    ∙ ap (λ zs. rows ++ generator_rows p cofactors (i + 2) zs) (sym (drop_at fs i f at))
+pub generator_rows_more : (p : ℕ) (cofactors : Bool) (before : ℕ) (fs : List Polynomial) (rows longer : List (Row Polynomial)) (i : ℕ) (f : Polynomial) (r : Row Polynomial) → slice_get fs i ≡ Some f → r ≡ generator_row cofactors (before + i) (length fs - i - 1) f → longer ≡ rows ++ r ∷ [] → rows ++ generator_rows p cofactors (before + i) (drop i fs) ≡ generator_rows p cofactors before fs → longer ++ generator_rows p cofactors (before + (i + 1)) (drop (i + 1) fs) ≡ generator_rows p cofactors before fs
+generator_rows_more p cofactors before fs rows longer i f r at same is whole =
+    ap (λ zs. zs ++ generator_rows p cofactors (before + (i + 1)) rest) is
+    ∙ append_assoc rows (r ∷ []) (generator_rows p cofactors (before + (i + 1)) rest)
+    ∙ ap₂ (λ z j. rows ++ (z ∷ generator_rows p cofactors j rest)) (same ∙ ap (λ k. generator_row cofactors (before + i) k f) count) place
+    ∙ ap (λ zs. rows ++ zs) (sym (generator_rows-first p cofactors (before + i) f rest))
+    ∙ ap (λ zs. rows ++ generator_rows p cofactors (before + i) zs) (sym (drop_at fs i f at))
     ∙ whole
   where
     rest : List Polynomial
     rest = drop (i + 1) fs
 
-    place : (i + 1) + 2 ≡ suc (i + 2)
+    place : before + (i + 1) ≡ suc (before + i)
     place = omega arith
 
     count : length fs - i - 1 ≡ length rest
     count = omega (arith, length-drop (i + 1) fs)
+
+-- at first all are to come
+pub generator_rows_start : (p : ℕ) (cofactors : Bool) (before : ℕ) (fs : List Polynomial) → generator_rows p cofactors (before + 0) fs ≡ generator_rows p cofactors before fs
+generator_rows_start p cofactors before fs = ap (λ (j : ℕ). generator_rows p cofactors j fs) (omega arith)
+
+-- one more canonical row
+pub rows_canonical_more : (p : ℕ) (rows longer : List (Row Polynomial)) (r : Row Polynomial) → longer ≡ rows ++ r ∷ [] → ArePolynomialRows p VARS rows → IsPolynomialRow p VARS r → ArePolynomialRows p VARS longer
+rows_canonical_more p rows longer r is are i = subst (ArePolynomialRows p VARS) (sym is) (go rows are)
+  where
+    go : (zs : List (Row Polynomial)) → ArePolynomialRows p VARS zs → ArePolynomialRows p VARS (zs ++ r ∷ [])
+    go [] are = (i, tt)
+    go (z ∷ zs) are = (are.0, go zs are.1)
 
 -- its first entry
 pub generator_row-first : (cofactors : Bool) (before behind : ℕ) (f : Polynomial) → (generator_row cofactors before behind f).first ≡ f
@@ -77,7 +90,7 @@ module _ (p : ℕ) (many : 1 < p) where
   zeros_canonical zero = tt
   zeros_canonical (suc k) = (tt, zeros_canonical k)
 
-  unit_canonical : (before behind : ℕ) → ArePolynomials p VARS (replicate before [] ++ one_of VARS ∷ replicate behind [])
+  pub unit_canonical : (before behind : ℕ) → ArePolynomials p VARS (unit_cofactors [] (one_of VARS) before behind)
   unit_canonical zero behind = (IsPolynomial-one_of p VARS many, zeros_canonical behind)
   unit_canonical (suc before) behind = (tt, unit_canonical before behind)
 

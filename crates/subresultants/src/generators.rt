@@ -39,7 +39,8 @@ fn unit_cofactors(
     before: usize,
     behind: usize,
 ) -> Result<Polys, AllocError>
-    ensures { IfOk result (λ r. r ≡ unit_cofactors [] (one_of VARS) before behind) }
+    ensures value { IfOk result (λ r. r ≡ unit_cofactors [] (one_of VARS) before behind) }
+    ensures over { IfOk result (ArePolynomials w.now.field VARS) }
 {
     // Tells that 1 is a residue.
     let _ = w.field.prime();

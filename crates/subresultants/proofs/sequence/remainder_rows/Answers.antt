@@ -12,7 +12,7 @@ use Rattle.subresultants.specs.Outcomes.{remainders_of}
 use Rattle.subresultants.specs.Shape.{EachRemainderRow, IfRows, HasFallingDegrees, IsReducedFromRowOne, HasNonzeroLeads, IfCoprime, EndsWithItsLead, VanishesWithGenerators}
 use Rattle.subresultants.specs.declared.outcome.Remainders.{Remainders}
 use Rattle.subresultants.proofs.CofactorClauses.{cofactor_steps, cofactor_lead, reduced_cofactor}
-use Rattle.subresultants.proofs.PolynomialRemainders.{if_ok, few_below, t_canonical, c_canonical, rows_canonical, same_start, same_counts, same_outcome, over, falls, last_lead, leads, reduced, zeros, combinations, no_cofactors}
+use Rattle.subresultants.proofs.PolynomialRemainders.{if_ok, few_below, same_start, same_counts, same_outcome, over, falls, last_lead, leads, reduced, zeros, combinations, no_cofactors}
 use Rattle.subresultants.proofs.sequence.remainder_rows.Goals as goal
 
 pub overflow_add-count : goal.overflow_add-count
@@ -21,48 +21,31 @@ overflow_add-count c =
     let count = c.count-count.ensures in
     omega arith
 
-pub generator_rows-requires : goal.generator_rows-requires
-generator_rows-requires c =
+pub generator_rows-requires-clause-places : goal.generator_rows-requires-clause-places
+generator_rows-requires-clause-places c =
     let few = few_below c.args.v 0 c.args.below.now (omega arith) c.requires.start.triangular c.requires.start.below in
     omega arith
 
-pub rows_of-requires-clause-first : goal.rows_of-requires-clause-first
-rows_of-requires-clause-first c =
-    let first : c.in_ok-first.first ≡ generator_row c.args.cofactors 1 (length c.args.below.now) c.args.t.now = c.in_ok-first.ensures ∙ ap (λ k. generator_row c.args.cofactors 1 k c.args.t.now) c.count-count.ensures in
-    let one_more : c.count-count.result + 1 ≡ suc (length c.args.below.now) = omega (arith, c.count-count.ensures) in
-    let second : c.in_ok-second.second ≡ generator_row c.args.cofactors 0 (suc (length c.args.below.now)) c.args.c.now = c.in_ok-second.ensures ∙ ap (λ k. generator_row c.args.cofactors 0 k c.args.c.now) one_more in
-    subst (IsPolynomialRow c.args.w.field VARS) (sym first) (t_canonical c.args.w.field c.args.w.width c.args.v c.args.cofactors c.prime.ensures.prime c.args.t.now c.args.c.now c.args.below.now c.requires.first c.requires.second c.requires.chain c.requires.start)
-
-pub rows_of-requires-clause-second : goal.rows_of-requires-clause-second
-rows_of-requires-clause-second c =
-    let first : c.in_ok-first.first ≡ generator_row c.args.cofactors 1 (length c.args.below.now) c.args.t.now = c.in_ok-first.ensures ∙ ap (λ k. generator_row c.args.cofactors 1 k c.args.t.now) c.count-count.ensures in
-    let one_more : c.count-count.result + 1 ≡ suc (length c.args.below.now) = omega (arith, c.count-count.ensures) in
-    let second : c.in_ok-second.second ≡ generator_row c.args.cofactors 0 (suc (length c.args.below.now)) c.args.c.now = c.in_ok-second.ensures ∙ ap (λ k. generator_row c.args.cofactors 0 k c.args.c.now) one_more in
-    subst (IsPolynomialRow c.args.w.field VARS) (sym second) (c_canonical c.args.w.field c.args.w.width c.args.v c.args.cofactors c.prime.ensures.prime c.args.t.now c.args.c.now c.args.below.now c.requires.first c.requires.second c.requires.chain c.requires.start)
-
-pub rows_of-requires-clause-chain : goal.rows_of-requires-clause-chain
-rows_of-requires-clause-chain c = subst (ArePolynomialRows c.args.w.field VARS) (sym c.in_ok-chain.ensures) (rows_canonical c.args.w.field c.args.w.width c.args.v c.args.cofactors c.prime.ensures.prime c.args.t.now c.args.c.now c.args.below.now c.requires.first c.requires.second c.requires.chain c.requires.start)
-
 pub rows_of-requires-clause-start : goal.rows_of-requires-clause-start
 rows_of-requires-clause-start c =
-    let first : c.in_ok-first.first ≡ generator_row c.args.cofactors 1 (length c.args.below.now) c.args.t.now = c.in_ok-first.ensures ∙ ap (λ k. generator_row c.args.cofactors 1 k c.args.t.now) c.count-count.ensures in
+    let first : c.in_ok-first.first ≡ generator_row c.args.cofactors 1 (length c.args.below.now) c.args.t.now = c.in_ok-first.ensures.value ∙ ap (λ k. generator_row c.args.cofactors 1 k c.args.t.now) c.count-count.ensures in
     let one_more : c.count-count.result + 1 ≡ suc (length c.args.below.now) = omega (arith, c.count-count.ensures) in
-    let second : c.in_ok-second.second ≡ generator_row c.args.cofactors 0 (suc (length c.args.below.now)) c.args.c.now = c.in_ok-second.ensures ∙ ap (λ k. generator_row c.args.cofactors 0 k c.args.c.now) one_more in
-    same_start c.args.w.field c.args.w.width c.args.v c.args.cofactors c.prime.ensures.prime c.args.t.now c.args.c.now c.args.below.now c.requires.first c.requires.second c.requires.chain c.requires.start c.in_ok-first.first c.in_ok-second.second c.in_ok-chain.chain first second c.in_ok-chain.ensures
+    let second : c.in_ok-second.second ≡ generator_row c.args.cofactors 0 (suc (length c.args.below.now)) c.args.c.now = c.in_ok-second.ensures.value ∙ ap (λ k. generator_row c.args.cofactors 0 k c.args.c.now) one_more in
+    same_start c.args.w.field c.args.w.width c.args.v c.args.cofactors c.prime.ensures.prime c.args.t.now c.args.c.now c.args.below.now c.requires.first c.requires.second c.requires.chain c.requires.start c.in_ok-first.first c.in_ok-second.second c.in_ok-chain.chain first second c.in_ok-chain.ensures.value
 
 pub rows_of-requires-clause-cofactors : goal.rows_of-requires-clause-cofactors
 rows_of-requires-clause-cofactors c =
-    let first : c.in_ok-first.first ≡ generator_row c.args.cofactors 1 (length c.args.below.now) c.args.t.now = c.in_ok-first.ensures ∙ ap (λ k. generator_row c.args.cofactors 1 k c.args.t.now) c.count-count.ensures in
+    let first : c.in_ok-first.first ≡ generator_row c.args.cofactors 1 (length c.args.below.now) c.args.t.now = c.in_ok-first.ensures.value ∙ ap (λ k. generator_row c.args.cofactors 1 k c.args.t.now) c.count-count.ensures in
     let one_more : c.count-count.result + 1 ≡ suc (length c.args.below.now) = omega (arith, c.count-count.ensures) in
-    let second : c.in_ok-second.second ≡ generator_row c.args.cofactors 0 (suc (length c.args.below.now)) c.args.c.now = c.in_ok-second.ensures ∙ ap (λ k. generator_row c.args.cofactors 0 k c.args.c.now) one_more in
-    same_counts c.args.w.field c.args.w.width c.args.v c.args.cofactors c.prime.ensures.prime c.args.t.now c.args.c.now c.args.below.now c.requires.first c.requires.second c.requires.chain c.requires.start c.in_ok-first.first c.in_ok-second.second c.in_ok-chain.chain first second c.in_ok-chain.ensures
+    let second : c.in_ok-second.second ≡ generator_row c.args.cofactors 0 (suc (length c.args.below.now)) c.args.c.now = c.in_ok-second.ensures.value ∙ ap (λ k. generator_row c.args.cofactors 0 k c.args.c.now) one_more in
+    same_counts c.args.w.field c.args.w.width c.args.v c.args.cofactors c.prime.ensures.prime c.args.t.now c.args.c.now c.args.below.now c.requires.first c.requires.second c.requires.chain c.requires.start c.in_ok-first.first c.in_ok-second.second c.in_ok-chain.chain first second c.in_ok-chain.ensures.value
 
 pub returns-clause-value : goal.returns-clause-value
 returns-clause-value c =
-    let first : c.in_ok-first.first ≡ generator_row c.args.cofactors 1 (length c.args.below.now) c.args.t.now = c.in_ok-first.ensures ∙ ap (λ k. generator_row c.args.cofactors 1 k c.args.t.now) c.count-count.ensures in
+    let first : c.in_ok-first.first ≡ generator_row c.args.cofactors 1 (length c.args.below.now) c.args.t.now = c.in_ok-first.ensures.value ∙ ap (λ k. generator_row c.args.cofactors 1 k c.args.t.now) c.count-count.ensures in
     let one_more : c.count-count.result + 1 ≡ suc (length c.args.below.now) = omega (arith, c.count-count.ensures) in
-    let second : c.in_ok-second.second ≡ generator_row c.args.cofactors 0 (suc (length c.args.below.now)) c.args.c.now = c.in_ok-second.ensures ∙ ap (λ k. generator_row c.args.cofactors 0 k c.args.c.now) one_more in
-    subst (λ (x : Remainders). IfOk c.rows_of.result (λ r. r ≡ x)) (same_outcome c.args.w.field c.args.w.width c.args.v c.args.cofactors c.prime.ensures.prime c.args.t.now c.args.c.now c.args.below.now c.requires.first c.requires.second c.requires.chain c.requires.start c.in_ok-first.first c.in_ok-second.second c.in_ok-chain.chain first second c.in_ok-chain.ensures) c.rows_of.ensures
+    let second : c.in_ok-second.second ≡ generator_row c.args.cofactors 0 (suc (length c.args.below.now)) c.args.c.now = c.in_ok-second.ensures.value ∙ ap (λ k. generator_row c.args.cofactors 0 k c.args.c.now) one_more in
+    subst (λ (x : Remainders). IfOk c.rows_of.result (λ r. r ≡ x)) (same_outcome c.args.w.field c.args.w.width c.args.v c.args.cofactors c.prime.ensures.prime c.args.t.now c.args.c.now c.args.below.now c.requires.first c.requires.second c.requires.chain c.requires.start c.in_ok-first.first c.in_ok-second.second c.in_ok-chain.chain first second c.in_ok-chain.ensures.value) c.rows_of.ensures
 
 pub returns-clause-over : goal.returns-clause-over
 returns-clause-over c = if_ok (EachRemainderRow (IsPolynomialRow c.args.w.field VARS)) (remainders_of c.args.w.field c.args.w.width c.args.v c.args.cofactors c.args.t.now c.args.c.now c.args.below.now) c.rows_of.result (returns-clause-value c) (over c.args.w.field c.args.w.width c.args.v c.args.cofactors c.prime.ensures.prime c.args.t.now c.args.c.now c.args.below.now c.requires.first c.requires.second c.requires.chain c.requires.start)
