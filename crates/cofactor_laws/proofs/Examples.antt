@@ -26,7 +26,7 @@ single_c = term (1 ∷ 1 ∷ []) 3 ∷ term (0 ∷ 0 ∷ []) 2 ∷ []
 abbrev single_zero : Row Polynomial
 single_zero = row [] ((term (3 ∷ 1 ∷ []) 4 ∷ []) ∷ (term (2 ∷ 0 ∷ []) 4 ∷ []) ∷ [])
 
-single_rows : rows_with_cofactors 5 2 100 1 single_c single_t [] ≡ record { later = []; last = Some single_zero }
+single_rows : rows_with_cofactors 5 2 100 1 single_t single_c [] ≡ record { later = []; last = Some single_zero }
 single_rows = refl
 
 single_steps : AreCofactorSteps (list_operations 5 2) 100 1 (rows_of_chain 5 2 []) 2 None (row_of_t 2 single_t []) (row_of_c 2 single_c []) [] (Some single_zero)
@@ -45,7 +45,7 @@ steep_row_two = row (term (6 ∷ 1 ∷ []) 4 ∷ []) ((term (4 ∷ 1 ∷ []) 1 �
 abbrev steep_zero : Row Polynomial
 steep_zero = row [] ((term (18 ∷ 3 ∷ []) 3 ∷ term (18 ∷ 0 ∷ []) 4 ∷ []) ∷ (term (18 ∷ 2 ∷ []) 2 ∷ []) ∷ [])
 
-steep_rows : rows_with_cofactors 5 2 100 1 steep_c steep_t [] ≡ record { later = steep_row_two ∷ []; last = Some steep_zero }
+steep_rows : rows_with_cofactors 5 2 100 1 steep_t steep_c [] ≡ record { later = steep_row_two ∷ []; last = Some steep_zero }
 steep_rows = refl
 
 steep_steps : AreCofactorSteps (list_operations 5 2) 100 1 (rows_of_chain 5 2 []) 4 None (row_of_t 2 steep_t []) (row_of_c 2 steep_c []) (steep_row_two ∷ []) (Some steep_zero)
@@ -70,7 +70,7 @@ skipped_row_three = row (term (1 ∷ 1 ∷ []) 1 ∷ []) ((term (4 ∷ 2 ∷ [])
 abbrev skipped_zero : Row Polynomial
 skipped_zero = row [] ((term (6 ∷ 3 ∷ []) 1 ∷ []) ∷ (term (6 ∷ 2 ∷ []) 1 ∷ term (4 ∷ 0 ∷ []) 1 ∷ []) ∷ (term (5 ∷ 4 ∷ []) 1 ∷ []) ∷ [])
 
-skipped_rows : rows_with_cofactors 3 2 100 1 skipped_c skipped_t skipped_chain ≡ record { later = skipped_row_two ∷ skipped_row_three ∷ []; last = Some skipped_zero }
+skipped_rows : rows_with_cofactors 3 2 100 1 skipped_t skipped_c skipped_chain ≡ record { later = skipped_row_two ∷ skipped_row_three ∷ []; last = Some skipped_zero }
 skipped_rows = refl
 
 skipped_steps : AreCofactorSteps (list_operations 3 2) 100 1 (rows_of_chain 3 2 skipped_chain) 4 None (row_of_t 2 skipped_t skipped_chain) (row_of_c 2 skipped_c skipped_chain) (skipped_row_two ∷ skipped_row_three ∷ []) (Some skipped_zero)
@@ -89,7 +89,7 @@ multiplied_chain = (term (1 ∷ 1 ∷ 0 ∷ []) 1 ∷ term (0 ∷ 0 ∷ 0 ∷ []
 abbrev multiplied_zero : Row Polynomial
 multiplied_zero = row [] ((term (3 ∷ 0 ∷ 1 ∷ []) 4 ∷ term (2 ∷ 0 ∷ 0 ∷ []) 1 ∷ []) ∷ (term (3 ∷ 0 ∷ 0 ∷ []) 1 ∷ []) ∷ (term (2 ∷ 0 ∷ 0 ∷ []) 2 ∷ []) ∷ [])
 
-multiplied_rows : rows_with_cofactors 5 3 100 2 multiplied_c multiplied_t multiplied_chain ≡ record { later = []; last = Some multiplied_zero }
+multiplied_rows : rows_with_cofactors 5 3 100 2 multiplied_t multiplied_c multiplied_chain ≡ record { later = []; last = Some multiplied_zero }
 multiplied_rows = refl
 
 multiplied_steps : AreCofactorSteps (list_operations 5 3) 100 2 (rows_of_chain 5 3 multiplied_chain) 2 None (row_of_t 3 multiplied_t multiplied_chain) (row_of_c 3 multiplied_c multiplied_chain) [] (Some multiplied_zero)
@@ -107,7 +107,7 @@ five_is_prime = record { many = omega arith; no_divisor = none }
     none (suc (suc (suc (suc (suc d))))) more less = absurd (omega arith)
 
 -- a b + 3 is below x, and reduces 4 a x + 4, in which its main variable b doesn't occur
-multiplied_ends : EndWithZeroRow 5 3 100 2 multiplied_c multiplied_t multiplied_chain multiplied_zero
+multiplied_ends : EndWithZeroRow 5 3 100 2 multiplied_t multiplied_c multiplied_chain multiplied_zero
 multiplied_ends = record {
   prime = five_is_prime;
   canonical = ((refl, omega arith, omega arith, refl, (refl, omega arith, omega arith, tt, tt)), ((refl, omega arith, omega arith, refl, (refl, omega arith, omega arith, tt, tt)), ((refl, omega arith, omega arith, refl, (refl, omega arith, omega arith, tt, tt)), tt)));
@@ -144,7 +144,7 @@ vanishing_row_two = row (term (1 ∷ 1 ∷ []) 2 ∷ term (0 ∷ 1 ∷ []) 1 ∷
 abbrev vanishing_zero : Row Polynomial
 vanishing_zero = row [] ((term (3 ∷ 2 ∷ []) 2 ∷ term (2 ∷ 2 ∷ []) 1 ∷ term (3 ∷ 1 ∷ []) 4 ∷ term (3 ∷ 0 ∷ []) 4 ∷ []) ∷ (term (4 ∷ 1 ∷ []) 3 ∷ term (3 ∷ 1 ∷ []) 4 ∷ term (4 ∷ 0 ∷ []) 4 ∷ term (3 ∷ 0 ∷ []) 2 ∷ term (2 ∷ 0 ∷ []) 4 ∷ []) ∷ (term (1 ∷ 0 ∷ []) 4 ∷ []) ∷ [])
 
-vanishing_rows : rows_with_cofactors 5 2 100 1 vanishing_c vanishing_t vanishing_chain ≡ record { later = vanishing_row_two ∷ []; last = Some vanishing_zero }
+vanishing_rows : rows_with_cofactors 5 2 100 1 vanishing_t vanishing_c vanishing_chain ≡ record { later = vanishing_row_two ∷ []; last = Some vanishing_zero }
 vanishing_rows = refl
 
 vanishing_steps : AreCofactorSteps (list_operations 5 2) 100 1 (rows_of_chain 5 2 vanishing_chain) 3 None (row_of_t 2 vanishing_t vanishing_chain) (row_of_c 2 vanishing_c vanishing_chain) (vanishing_row_two ∷ []) (Some vanishing_zero)
@@ -154,5 +154,5 @@ vanishing_reduces : reduction_of 5 2 (vanishing_chain ++ vanishing_t ∷ []) (fi
 vanishing_reduces = refl
 
 -- at x = 0 and y = 1, where x^2 and y^3 + 4 y^2 are zero, the lead x is
-vanishing_lead : Any (λ l. value_at (residue_tables 5) (0 ∷ 1 ∷ []) l ≡ 0) (leads_from_c 5 2 100 1 vanishing_c vanishing_t vanishing_chain)
+vanishing_lead : Any (λ l. value_at (residue_tables 5) (0 ∷ 1 ∷ []) l ≡ 0) (leads_from_c 5 2 100 1 vanishing_t vanishing_c vanishing_chain)
 vanishing_lead = (0, term (1 ∷ 0 ∷ []) 1 ∷ [], omega arith, refl, refl)

@@ -39,7 +39,7 @@ module _ (p n : ℕ) (prime : IsPrime p) where
   up-plains [] are = refl
   up-plains (f ∷ fs) are = ap (λ rows. plain (f, are.0) ∷ rows) (up-plains fs are.1)
 
-  module _ (w v : ℕ) (c t : Polynomial) (chain : List Polynomial) (are : ArePolynomials p n (c ∷ t ∷ chain)) (start : StartRemainderRows v chain t c) where
+  module _ (w v : ℕ) (t c : Polynomial) (chain : List Polynomial) (are : ArePolynomials p n (c ∷ t ∷ chain)) (start : StartRemainderRows v chain t c) where
     -- c, t and the chain as canonical polynomials
     abbrev pub canonical_c : CanonicalPolynomial p n
     canonical_c = (c, are.0)
@@ -85,14 +85,14 @@ module _ (p n : ℕ) (prime : IsPrime p) where
     pub down-chain_units : down_all p n prime.many chain_units ≡ rows_of_chain p n chain
     down-chain_units = down-unit_rows p n prime 2 canonical_chain ∙ ap (unit_rows (list_operations p n) 2) (terms-up_all p n prime.many chain are.1.1)
 
-    pub down-canonical_rows : down_rows p n prime.many canonical_rows ≡ rows_with_cofactors p n w v c t chain
+    pub down-canonical_rows : down_rows p n prime.many canonical_rows ≡ rows_with_cofactors p n w v t c chain
     down-canonical_rows = down-remainder_rows p n prime.many w v chain_units second first ∙ ap (λ rows. remainder_rows (list_operations p n) w v rows (down p n prime.many second) (down p n prime.many first)) down-chain_units ∙ ap₂ (remainder_rows (list_operations p n) w v (rows_of_chain p n chain)) down-second down-first
 
     -- the steps of the cofactors of c
     pub canonical_steps : AreCofactorSteps (canonical_operations p n prime.many) w v chain_units (degree_in v t) None second first canonical_rows.later canonical_rows.last
     canonical_steps = generator_rows_steps P w v canonical_c canonical_t canonical_chain base turn
 
-    pub list_steps : AreCofactorSteps (list_operations p n) w v (rows_of_chain p n chain) (degree_in v t) None (row_of_t n t chain) (row_of_c n c chain) (rows_with_cofactors p n w v c t chain).later (rows_with_cofactors p n w v c t chain).last
+    pub list_steps : AreCofactorSteps (list_operations p n) w v (rows_of_chain p n chain) (degree_in v t) None (row_of_t n t chain) (row_of_c n c chain) (rows_with_cofactors p n w v t c chain).later (rows_with_cofactors p n w v t c chain).last
     list_steps = subst (λ rows. AreCofactorSteps (list_operations p n) w v (rows_of_chain p n chain) (degree_in v t) None (row_of_t n t chain) (row_of_c n c chain) rows.later rows.last) down-canonical_rows (subst (λ f. AreCofactorSteps (list_operations p n) w v (rows_of_chain p n chain) (degree_in v t) None f (row_of_c n c chain) down_of.later down_of.last) down-second (subst (λ g. AreCofactorSteps (list_operations p n) w v (rows_of_chain p n chain) (degree_in v t) None (down p n prime.many second) g down_of.later down_of.last) down-first (subst (λ rows. AreCofactorSteps (list_operations p n) w v rows (degree_in v t) None (down p n prime.many second) (down p n prime.many first) down_of.later down_of.last) down-chain_units (down_steps p n prime.many w v chain_units (degree_in v t) None second first canonical_rows.later canonical_rows.last canonical_steps))))
       where
         down_of : LaterRows Polynomial

@@ -35,7 +35,7 @@ lacks_with v f g (t ∷ chain) free alike lacks = (
   lacks_with v f g chain free alike lacks.1,
 )
 
-module _ (p n w v : ℕ) (chain : List Polynomial) (c t : Polynomial) (starts : StartIn p n v chain c t) where
+module _ (p n w v : ℕ) (chain : List Polynomial) (t c : Polynomial) (starts : StartIn p n v chain t c) where
   abbrev below : List Polynomial
   below = members_below v chain
 
@@ -43,7 +43,7 @@ module _ (p n w v : ℕ) (chain : List Polynomial) (c t : Polynomial) (starts : 
   first = row_of_c n c below
 
   abbrev rows : LaterRows Polynomial
-  rows = rows_with_cofactors p n w v c t below
+  rows = rows_with_cofactors p n w v t c below
 
   member : IsMember v chain t
   member = members_are_placed v chain t starts.triangular starts.member
@@ -57,10 +57,10 @@ module _ (p n w v : ℕ) (chain : List Polynomial) (c t : Polynomial) (starts : 
       (starts.canonical.0, (parts.1.0, parts.0))
 
   are : ArePolynomialRows p n (row_of_t n t below ∷ first ∷ rows_of_chain p n below)
-  are = are_rows p n starts.prime v c t below generators
+  are = are_rows p n starts.prime v t c below generators
 
   falling : HaveFallingDegrees p n v (first_entries (rows_of_chain p n below)) first rows
-  falling = remainder_rows_fall p n w v (rows_of_chain p n below) (row_of_t n t below) first starts.prime are (start_rows p n v c t below start)
+  falling = remainder_rows_fall p n w v (rows_of_chain p n below) (row_of_t n t below) first starts.prime are (start_rows p n v t c below start)
 
   -- it isn't 0
   pub last_nonzero : (last_row first rows.later).first ≢ []
@@ -73,26 +73,26 @@ module _ (p n w v : ℕ) (chain : List Polynomial) (c t : Polynomial) (starts : 
   -- a greater variable that c lacks doesn't occur in it
   pub last_lacks : (x : ℕ) → v < x → IsFreeOf x c → IsFreeOf x (last_row first rows.later).first
   last_lacks x less free_c =
-      let lacking = rows_lack p n starts.prime v c t below x less start.below (free_above_main_var v x t member.main less) free_c in
-      (last_of (IsRowFreeOf x) first rows.later lacking.1.0 (remainder_rows_are_free p n w v x (rows_of_chain p n below) (row_of_t n t below) first starts.prime are (start_rows p n v c t below start) (λ same. omega (arith, less, same)) lacking).0).0
+      let lacking = rows_lack p n starts.prime v t c below x less start.below (free_above_main_var v x t member.main less) free_c in
+      (last_of (IsRowFreeOf x) first rows.later lacking.1.0 (remainder_rows_are_free p n w v x (rows_of_chain p n below) (row_of_t n t below) first starts.prime are (start_rows p n v t c below start) (λ same. omega (arith, less, same)) lacking).0).0
 
 -- the law
 pub last_rows_are_reduced : LastRowsAreReduced
-last_rows_are_reduced p n w v chain c t starts none = record {
-  nonzero = last_nonzero p n w v chain c t starts;
+last_rows_are_reduced p n w v chain t c starts none = record {
+  nonzero = last_nonzero p n w v chain t c starts;
   free = free;
   lacks = lacks;
-  reduced = reduced_by_whole v chain (last_row g later).first (last_reduced p n w v chain c t starts) lacks;
+  reduced = reduced_by_whole v chain (last_row g later).first (last_reduced p n w v chain t c starts) lacks;
 }
   where
     g : Row Polynomial
     g = row_of_c n c (members_below v chain)
 
     later : List (Row Polynomial)
-    later = (rows_with_cofactors p n w v c t (members_below v chain)).later
+    later = (rows_with_cofactors p n w v t c (members_below v chain)).later
 
     free : IsFreeOf v (last_row g later).first
-    free = last_degree (list_operations p n) v g later (subst (DegreesFall (list_operations p n) v g later) none (falling p n w v chain c t starts).falls)
+    free = last_degree (list_operations p n) v g later (subst (DegreesFall (list_operations p n) v g later) none (falling p n w v chain t c starts).falls)
 
     lacks : LacksMainFrom v (last_row g later).first chain
-    lacks = lacks_with v c (last_row g later).first chain free (last_lacks p n w v chain c t starts) starts.lacks
+    lacks = lacks_with v c (last_row g later).first chain free (last_lacks p n w v chain t c starts) starts.lacks

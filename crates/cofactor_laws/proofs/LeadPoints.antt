@@ -63,18 +63,18 @@ module _ (p n : ℕ) (prime : IsPrime p) (r : Tables) (domain : IsFiniteDomain p
   any_lead v (h ∷ rows) (inl z) = any_first IsZeroAt (lead (list_operations p n) v h.first.0) (leads (list_operations p n) v (down_all p n prime.many rows)) (zero_table p n prime r domain xs point (lead (canonical_operations p n prime.many) v h.first) z)
   any_lead v (h ∷ rows) (inr z) = any_later IsZeroAt (lead (list_operations p n) v h.first.0) (leads (list_operations p n) v (down_all p n prime.many rows)) (any_lead v rows z)
 
-  module _ (w v : ℕ) (c t : Polynomial) (chain : List Polynomial) (are : ArePolynomials p n (c ∷ t ∷ chain)) (start : StartRemainderRows v chain t c) where
+  module _ (w v : ℕ) (t c : Polynomial) (chain : List Polynomial) (are : ArePolynomials p n (c ∷ t ∷ chain)) (start : StartRemainderRows v chain t c) where
     abbrev C : CanonicalPolynomial p n
-    C = canonical_c p n prime w v c t chain are start
+    C = canonical_c p n prime w v t c chain are start
 
     abbrev T : CanonicalPolynomial p n
-    T = canonical_t p n prime w v c t chain are start
+    T = canonical_t p n prime w v t c chain are start
 
     abbrev below : List (CanonicalPolynomial p n)
-    below = canonical_chain p n prime w v c t chain are start
+    below = canonical_chain p n prime w v t c chain are start
 
     abbrev rows : LaterRows (CanonicalPolynomial p n)
-    rows = canonical_rows p n prime w v c t chain are start
+    rows = canonical_rows p n prime w v t c chain are start
 
     -- the chain is zero, and its initials aren't
     zeros_above : InZeroSet r xs chain → AllZero P E (plains below)
@@ -84,14 +84,14 @@ module _ (p n : ℕ) (prime : IsPrime p) (r : Tables) (domain : IsFiniteDomain p
     initials_above others = subst (InitialsNotZero P E) (up-plains p n prime chain are.1.1) (chain_initials p n prime r domain xs point (plains chain) (plain_rows_are p n chain are.1.1) (subst (λ fs. AreNonZero r xs (map initial_of fs)) (sym (first_entries-plains chain)) others))
 
     -- the leads of c and of the later rows
-    leads_down : AnyRow (λ h. IsZero P E (lead (canonical_operations p n prime.many) v h.first)) (first p n prime w v c t chain are start ∷ rows.later) → Any IsZeroAt (leads_from_c p n w v c t chain)
-    leads_down found = subst (λ y. Any IsZeroAt (leads (list_operations p n) v (row_of_c n c chain ∷ y.later))) (down-canonical_rows p n prime w v c t chain are start) (subst (λ g. Any IsZeroAt (leads (list_operations p n) v (g ∷ down_all p n prime.many rows.later))) (down-first p n prime w v c t chain are start) (any_lead v (first p n prime w v c t chain are start ∷ rows.later) found))
+    leads_down : AnyRow (λ h. IsZero P E (lead (canonical_operations p n prime.many) v h.first)) (first p n prime w v t c chain are start ∷ rows.later) → Any IsZeroAt (leads_from_c p n w v t c chain)
+    leads_down found = subst (λ y. Any IsZeroAt (leads (list_operations p n) v (row_of_c n c chain ∷ y.later))) (down-canonical_rows p n prime w v t c chain are start) (subst (λ g. Any IsZeroAt (leads (list_operations p n) v (g ∷ down_all p n prime.many rows.later))) (down-first p n prime w v t c chain are start) (any_lead v (first p n prime w v t c chain are start ∷ rows.later) found))
 
     -- the zero row, as one of canonical polynomials
-    pub zero_row_above : (z : Row Polynomial) → (rows_with_cofactors p n w v c t chain).last ≡ Some z → (y : Row (CanonicalPolynomial p n)) × (rows.last ≡ Some y) × (down p n prime.many y ≡ z)
-    zero_row_above z last = there_before (down p n prime.many) rows.last z (ap (λ x. x.last) (down-canonical_rows p n prime w v c t chain are start) ∙ last)
+    pub zero_row_above : (z : Row Polynomial) → (rows_with_cofactors p n w v t c chain).last ≡ Some z → (y : Row (CanonicalPolynomial p n)) × (rows.last ≡ Some y) × (down p n prime.many y ≡ z)
+    zero_row_above z last = there_before (down p n prime.many) rows.last z (ap (λ x. x.last) (down-canonical_rows p n prime w v t c chain are start) ∙ last)
 
-    module _ (z : Row Polynomial) (last : (rows_with_cofactors p n w v c t chain).last ≡ Some z) (others : AreNonZero r xs (map initial_of chain)) (lead_t : value_at r xs (lead_in v t) ≢ r.nil) where
+    module _ (z : Row Polynomial) (last : (rows_with_cofactors p n w v t c chain).last ≡ Some z) (others : AreNonZero r xs (map initial_of chain)) (lead_t : value_at r xs (lead_in v t) ≢ r.nil) where
       abbrev y : Row (CanonicalPolynomial p n)
       y = (zero_row_above z last).0
 
@@ -102,12 +102,12 @@ module _ (p n : ℕ) (prime : IsPrime p) (r : Tables) (domain : IsFiniteDomain p
       lead_t_above = table_not_zero p n prime r domain xs point (lead (canonical_operations p n prime.many) v T) lead_t
 
       -- where its lead is zero, the lead of a row is
-      pub lead_shows_lead : value_at r xs (lead_in v (first_cofactor (list_operations p n) z)) ≡ r.nil → Any IsZeroAt (leads_from_c p n w v c t chain)
-      lead_shows_lead null = leads_down (cofactor_lead_zero P E v decides w units (EachRow-unit_rows P (λ u. NotZero P E (initial (canonical_operations p n prime.many) u)) 2 below (initials_above others)) (degree_in v t) None (second p n prime w v c t chain are start) (first p n prime w v c t chain are start) rows.later y (subst (λ o. AreCofactorSteps (canonical_operations p n prime.many) w v units (degree_in v t) None (second p n prime w v c t chain are start) (first p n prime w v c t chain are start) rows.later o) (zero_row_above z last).1 (canonical_steps p n prime w v c t chain are start)) lead_t_above (λ e. E.one_not_nil (sym E.is_value.val-one ∙ ap E.val (sym (lead-degree_zero P v P.ring.one (degree-one P v))) ∙ e)) (table_zero p n prime r domain xs point (lead (canonical_operations p n prime.many) v (first_cofactor (canonical_operations p n prime.many) y)) (ap (λ a. value_at r xs (lead_in v a)) cofactor_is ∙ null)))
+      pub lead_shows_lead : value_at r xs (lead_in v (first_cofactor (list_operations p n) z)) ≡ r.nil → Any IsZeroAt (leads_from_c p n w v t c chain)
+      lead_shows_lead null = leads_down (cofactor_lead_zero P E v decides w units (EachRow-unit_rows P (λ u. NotZero P E (initial (canonical_operations p n prime.many) u)) 2 below (initials_above others)) (degree_in v t) None (second p n prime w v t c chain are start) (first p n prime w v t c chain are start) rows.later y (subst (λ o. AreCofactorSteps (canonical_operations p n prime.many) w v units (degree_in v t) None (second p n prime w v t c chain are start) (first p n prime w v t c chain are start) rows.later o) (zero_row_above z last).1 (canonical_steps p n prime w v t c chain are start)) lead_t_above (λ e. E.one_not_nil (sym E.is_value.val-one ∙ ap E.val (sym (lead-degree_zero P v P.ring.one (degree-one P v))) ∙ e)) (table_zero p n prime r domain xs point (lead (canonical_operations p n prime.many) v (first_cofactor (canonical_operations p n prime.many) y)) (ap (λ a. value_at r xs (lead_in v a)) cofactor_is ∙ null)))
         where
           units : List (Row (CanonicalPolynomial p n))
-          units = chain_units p n prime w v c t chain are start
+          units = chain_units p n prime w v t c chain are start
 
       -- and where it reduces to 0 by the chain, which is zero
-      pub reduction_shows_lead : InZeroSet r xs chain → (reduction (canonical_operations p n prime.many) (plains below) (plain (first_cofactor (canonical_operations p n prime.many) y))).first ≡ P.ring.nil → Any IsZeroAt (leads_from_c p n w v c t chain)
-      reduction_shows_lead zeros null = leads_down (generator_rows_lead_zero P E w v C T below (base p n prime w v c t chain are start) (turn p n prime w v c t chain are start) decides (zeros_above zeros) (initials_above others) lead_t_above y (zero_row_above z last).1 null)
+      pub reduction_shows_lead : InZeroSet r xs chain → (reduction (canonical_operations p n prime.many) (plains below) (plain (first_cofactor (canonical_operations p n prime.many) y))).first ≡ P.ring.nil → Any IsZeroAt (leads_from_c p n w v t c chain)
+      reduction_shows_lead zeros null = leads_down (generator_rows_lead_zero P E w v C T below (base p n prime w v t c chain are start) (turn p n prime w v t c chain are start) decides (zeros_above zeros) (initials_above others) lead_t_above y (zero_row_above z last).1 null)

@@ -73,10 +73,10 @@ module _ (p n : ℕ) (prime : IsPrime p) where
   rows_free x before (f ∷ fs) free = ((free.0, unit_free x before (length fs)), rows_free x (suc before) fs free.1)
 
 -- the chain as rows starts remainder rows where the chain does
-pub start_rows : (p n v : ℕ) (c t : Polynomial) (chain : List Polynomial) → StartRemainderRows v chain t c → StartRemainderRows v (first_entries (rows_of_chain p n chain)) t c
-start_rows p n v c t chain start = subst (λ fs. StartRemainderRows v fs t c) (sym (first_entries-unit_rows p n 2 chain)) start
+pub start_rows : (p n v : ℕ) (t c : Polynomial) (chain : List Polynomial) → StartRemainderRows v chain t c → StartRemainderRows v (first_entries (rows_of_chain p n chain)) t c
+start_rows p n v t c chain start = subst (λ fs. StartRemainderRows v fs t c) (sym (first_entries-unit_rows p n 2 chain)) start
 
-module _ (p n : ℕ) (prime : IsPrime p) (v : ℕ) (c t : Polynomial) (chain : List Polynomial) where
+module _ (p n : ℕ) (prime : IsPrime p) (v : ℕ) (t c : Polynomial) (chain : List Polynomial) where
   -- canonical polynomials as rows are canonical
   pub are_rows : ArePolynomials p n (c ∷ t ∷ chain) → ArePolynomialRows p n (row_of_t n t chain ∷ row_of_c n c chain ∷ rows_of_chain p n chain)
   are_rows are =
@@ -87,26 +87,26 @@ module _ (p n : ℕ) (prime : IsPrime p) (v : ℕ) (c t : Polynomial) (chain : L
   pub rows_lack : (x : ℕ) → v < x → AreBelow v chain → IsFreeOf x t → IsFreeOf x c → EachRow (IsRowFreeOf x) (row_of_t n t chain ∷ row_of_c n c chain ∷ rows_of_chain p n chain)
   rows_lack x less below free_t free_c = ((free_t, unit_free p n prime x 1 (length chain)), ((free_c, unit_free p n prime x 0 (suc (length chain))), rows_free p n prime x 2 chain (chain_free v x chain less below)))
 
-module _ (p n w v : ℕ) (c t : Polynomial) (chain : List Polynomial) (z : Row Polynomial) (ends : EndWithZeroRow p n w v c t chain z) where
+module _ (p n w v : ℕ) (t c : Polynomial) (chain : List Polynomial) (z : Row Polynomial) (ends : EndWithZeroRow p n w v t c chain z) where
   abbrev a : Polynomial
   a = first_cofactor (list_operations p n) z
 
   abbrev starts : StartRemainderRows v (first_entries (rows_of_chain p n chain)) t c
-  starts = start_rows p n v c t chain ends.start
+  starts = start_rows p n v t c chain ends.start
 
   abbrev are : ArePolynomialRows p n (row_of_t n t chain ∷ row_of_c n c chain ∷ rows_of_chain p n chain)
-  are = are_rows p n ends.prime v c t chain ends.canonical
+  are = are_rows p n ends.prime v t c chain ends.canonical
 
   -- the cofactor has less degree than t
   less_than_t : degree_in v a < degree_in v t
   less_than_t =
-      let sum = last_cofactor_has_degree p n w v c t chain z ends in
-      let occurs = last_occurs (list_operations p n) v (row_of_c n c chain) (rows_with_cofactors p n w v c t chain).later z (subst (DegreesFall (list_operations p n) v (row_of_c n c chain) (rows_with_cofactors p n w v c t chain).later) ends.last (remainder_rows_fall p n w v (rows_of_chain p n chain) (row_of_t n t chain) (row_of_c n c chain) ends.prime are starts).falls) in
+      let sum = last_cofactor_has_degree p n w v t c chain z ends in
+      let occurs = last_occurs (list_operations p n) v (row_of_c n c chain) (rows_with_cofactors p n w v t c chain).later z (subst (DegreesFall (list_operations p n) v (row_of_c n c chain) (rows_with_cofactors p n w v t c chain).later) ends.last (remainder_rows_fall p n w v (rows_of_chain p n chain) (row_of_t n t chain) (row_of_c n c chain) ends.prime are starts).falls) in
       omega (arith, sum, occurs)
 
   -- and lacks each greater variable that c lacks
   lacks_greater : (x : ℕ) → v < x → main_var t ≡ Some v → IsFreeOf x c → IsFreeOf x a
-  lacks_greater x less main free_c = cofactor_free p n x z (subst (IfRow (IsRowFreeOf x)) ends.last (remainder_rows_are_free p n w v x (rows_of_chain p n chain) (row_of_t n t chain) (row_of_c n c chain) ends.prime are starts (λ same. omega (arith, less, same)) (rows_lack p n ends.prime v c t chain x less ends.start.below (free_above_main_var v x t main less) free_c)).1)
+  lacks_greater x less main free_c = cofactor_free p n x z (subst (IfRow (IsRowFreeOf x)) ends.last (remainder_rows_are_free p n w v x (rows_of_chain p n chain) (row_of_t n t chain) (row_of_c n c chain) ends.prime are starts (λ same. omega (arith, less, same)) (rows_lack p n ends.prime v t c chain x less ends.start.below (free_above_main_var v x t main less) free_c)).1)
 
   -- so it is reduced by what follows t
   reduced_behind : (u : ℕ) (more : List Polynomial) → v < u → main_var t ≡ Some v → IsTriangularFrom u more → IsFreeOfMain c more → IsReducedBy a more
@@ -120,30 +120,30 @@ module _ (p n w v : ℕ) (c t : Polynomial) (chain : List Polynomial) (z : Row P
           let some : 0 < degree_in x s = degree_in_main_var x s is_x in
           omega (arith, none, some)
 
-  pub reduced_from_t : (more : List Polynomial) → StandsInTriangular p n v c t chain more → IsReducedBy a (t ∷ more)
+  pub reduced_from_t : (more : List Polynomial) → StandsInTriangular p n v t c chain more → IsReducedBy a (t ∷ more)
   reduced_from_t more stands = ((λ x is. subst (λ y. degree_in y a < degree_in y t) (same_Some v x (sym stands.main ∙ is)) less_than_t), reduced_behind (suc v) more (omega arith) stands.main (main_variables_behind 0 v chain more t stands.main stands.triangular) stands.free)
 
 -- the laws
 pub cofactor_lead_is_zero_by_leads : CofactorLeadIsZeroByLeads
-cofactor_lead_is_zero_by_leads p n w v r xs c t chain z ends domain point others lead_t null = lead_shows_lead p n ends.prime r domain xs point w v c t chain ends.canonical ends.start z ends.last others lead_t null
+cofactor_lead_is_zero_by_leads p n w v r xs t c chain z ends domain point others lead_t null = lead_shows_lead p n ends.prime r domain xs point w v t c chain ends.canonical ends.start z ends.last others lead_t null
 
 pub reduced_cofactor_shows_lead : ReducedCofactorShowsLead
-reduced_cofactor_shows_lead p n w v r xs c t chain more z ends stands domain point inside lead_t null = reduction_shows_lead p n ends.prime r domain xs point w v c t chain ends.canonical ends.start z ends.last inside.1 lead_t inside.0 (canonical_path p n _ _ reduces)
+reduced_cofactor_shows_lead p n w v r xs t c chain more z ends stands domain point inside lead_t null = reduction_shows_lead p n ends.prime r domain xs point w v t c chain ends.canonical ends.start z ends.last inside.1 lead_t inside.0 (canonical_path p n _ _ reduces)
   where
     y : Row (CanonicalPolynomial p n)
-    y = (zero_row_above p n ends.prime r domain xs point w v c t chain ends.canonical ends.start z ends.last).0
+    y = (zero_row_above p n ends.prime r domain xs point w v t c chain ends.canonical ends.start z ends.last).0
 
     b : CanonicalPolynomial p n
     b = first_cofactor (canonical_operations p n ends.prime.many) y
 
     is : b.0 ≡ first_cofactor (list_operations p n) z
-    is = terms-first_cofactor p n ends.prime.many y ∙ ap (first_cofactor (list_operations p n)) (zero_row_above p n ends.prime r domain xs point w v c t chain ends.canonical ends.start z ends.last).2
+    is = terms-first_cofactor p n ends.prime.many y ∙ ap (first_cofactor (list_operations p n)) (zero_row_above p n ends.prime r domain xs point w v t c chain ends.canonical ends.start z ends.last).2
 
     are : ArePolynomials p n (chain ++ t ∷ more)
     are = ArePolynomials-append p n chain (t ∷ more) ends.canonical.1.1 (ends.canonical.1.0, stands.canonical)
 
     shorter : reduction_of p n (chain ++ t ∷ more) (first_cofactor (list_operations p n) z) ≡ reduction_of p n chain (first_cofactor (list_operations p n) z)
-    shorter = reduced_by_more p n chain (t ∷ more) (first_cofactor (list_operations p n) z) ends.prime are (subst (IsPolynomial p n) is b.1) stands.triangular (reduced_from_t p n w v c t chain z ends more stands)
+    shorter = reduced_by_more p n chain (t ∷ more) (first_cofactor (list_operations p n) z) ends.prime are (subst (IsPolynomial p n) is b.1) stands.triangular (reduced_from_t p n w v t c chain z ends more stands)
 
-    reduces : (reduction (canonical_operations p n ends.prime.many) (plains (canonical_chain p n ends.prime w v c t chain ends.canonical ends.start)) (plain b)).first.0 ≡ []
+    reduces : (reduction (canonical_operations p n ends.prime.many) (plains (canonical_chain p n ends.prime w v t c chain ends.canonical ends.start)) (plain b)).first.0 ≡ []
     reduces = ap (λ rows. (reduction (canonical_operations p n ends.prime.many) rows (plain b)).first.0) (sym (up-plains p n ends.prime chain ends.canonical.1.1)) ∙ ap (λ h. h.first) (lifted-reduction p n ends.prime.many (plains chain) (plain_rows_are p n chain ends.canonical.1.1) (plain b.0) (b.1, tt)) ∙ ap (reduction_of p n chain) is ∙ sym shorter ∙ null

@@ -36,7 +36,7 @@ free_behind : (v u : ℕ) (c : Polynomial) (more : List Polynomial) → v < u �
 free_behind v u c [] less triangular lacks = tt
 free_behind v u c (s ∷ more) less (m, main, up_to, later) lacks = (subst (λ o. LacksVariable o c) (sym main) (lacks.0 m main (omega (arith, less, up_to))), free_behind v (suc m) c more (omega (arith, less, up_to)) later lacks.1)
 
-module _ (p n w v : ℕ) (chain : List Polynomial) (c t : Polynomial) (z : Row Polynomial) (ends : EndWithZeroRowIn p n w v chain c t z) where
+module _ (p n w v : ℕ) (chain : List Polynomial) (t c : Polynomial) (z : Row Polynomial) (ends : EndWithZeroRowIn p n w v chain t c z) where
   member : IsMember v chain t
   member = members_are_placed v chain t ends.starts.triangular ends.starts.member
 
@@ -47,7 +47,7 @@ module _ (p n w v : ℕ) (chain : List Polynomial) (c t : Polynomial) (z : Row P
   are = ArePolynomials-parts p n (members_below v chain) (t ∷ member.more) (subst (ArePolynomials p n) member.parts ends.starts.canonical.1)
 
   -- the rows below v
-  ends_below : EndWithZeroRow p n w v c t (members_below v chain) z
+  ends_below : EndWithZeroRow p n w v t c (members_below v chain) z
   ends_below = record {
     prime = ends.starts.prime;
     canonical = (ends.starts.canonical.0, (are.1.0, are.0));
@@ -58,7 +58,7 @@ module _ (p n w v : ℕ) (chain : List Polynomial) (c t : Polynomial) (z : Row P
   triangular_parts : IsTriangularFrom 0 (members_below v chain ++ t ∷ member.more)
   triangular_parts = subst (IsTriangularFrom 0) member.parts ends.starts.triangular
 
-  stands : StandsInTriangular p n v c t (members_below v chain) member.more
+  stands : StandsInTriangular p n v t c (members_below v chain) member.more
   stands = record {
     main = member.main;
     triangular = triangular_parts;
@@ -67,7 +67,7 @@ module _ (p n w v : ℕ) (chain : List Polynomial) (c t : Polynomial) (z : Row P
   }
 
   over : IsRowOver p n (c ∷ t ∷ members_below v chain) z
-  over = subst (IfRow (IsRowOver p n (c ∷ t ∷ members_below v chain))) ends.last (rows_with_cofactors_are_combinations p n w v c t (members_below v chain) ends.starts.prime ends_below.canonical ends_below.start).1
+  over = subst (IfRow (IsRowOver p n (c ∷ t ∷ members_below v chain))) ends.last (rows_with_cofactors_are_combinations p n w v t c (members_below v chain) ends.starts.prime ends_below.canonical ends_below.start).1
 
 -- the first cofactor of a canonical row is canonical
 first_canonical : (p n : ℕ) (cs : List Polynomial) → ArePolynomials p n cs → IsPolynomial p n (get_or cs 0 [])
@@ -76,9 +76,9 @@ first_canonical p n (c ∷ cs) h = h.0
 
 -- the law
 pub zero_rows_show_zeros : ZeroRowsShowZeros
-zero_rows_show_zeros p n w v r xs chain c t z ends domain point inside = record {
-  splits = split (zero_row_splits_zeros p n w v r xs c t (members_below v chain) z (ends_below p n w v chain c t z ends) domain point (at_t.zero, at_t.below.0));
-  lead = λ null. reduced_cofactor_shows_lead p n w v r xs c t (members_below v chain) (member p n w v chain c t z ends).more z (ends_below p n w v chain c t z ends) (stands p n w v chain c t z ends) domain point at_t.below at_t.lead (ap (λ fs. reduction_of p n fs a) (sym (member p n w v chain c t z ends).parts) ∙ null);
+zero_rows_show_zeros p n w v r xs chain t c z ends domain point inside = record {
+  splits = split (zero_row_splits_zeros p n w v r xs t c (members_below v chain) z (ends_below p n w v chain t c z ends) domain point (at_t.zero, at_t.below.0));
+  lead = λ null. reduced_cofactor_shows_lead p n w v r xs t c (members_below v chain) (member p n w v chain t c z ends).more z (ends_below p n w v chain t c z ends) (stands p n w v chain t c z ends) domain point at_t.below at_t.lead (ap (λ fs. reduction_of p n fs a) (sym (member p n w v chain t c z ends).parts) ∙ null);
 }
   where
     a : Polynomial
@@ -88,5 +88,5 @@ zero_rows_show_zeros p n w v r xs chain c t z ends domain point inside = record 
     at_t = points_at_members v r xs chain t ends.starts.triangular ends.starts.member inside
 
     split : (value_at r xs a ≡ r.nil) ⊎ (value_at r xs c ≡ r.nil) → (value_at r xs (reduction_of p n chain a) ≡ r.nil) ⊎ (value_at r xs c ≡ r.nil)
-    split (inl null) = inl (reductions_keep_zeros p n r xs chain a ends.starts.prime domain point ends.starts.canonical.1 (first_canonical p n z.cofactors (over p n w v chain c t z ends).canonical.1) inside.0 null)
+    split (inl null) = inl (reductions_keep_zeros p n r xs chain a ends.starts.prime domain point ends.starts.canonical.1 (first_canonical p n z.cofactors (over p n w v chain t c z ends).canonical.1) inside.0 null)
     split (inr null) = inr null

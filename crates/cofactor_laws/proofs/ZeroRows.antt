@@ -28,7 +28,7 @@ use Rattle.cofactor_laws.proofs.ReducedCofactors.{start_rows, are_rows}
 
 -- the rows, since the generators as rows are combinations
 pub rows_with_cofactors_are_combinations : RowsWithCofactorsAreCombinations
-rows_with_cofactors_are_combinations p n w v c t chain prime are start = (kept.later_rows w v (rows_of_chain p n chain) (row_of_t n t chain) (row_of_c n c chain) over from, kept.zero_row w v (rows_of_chain p n chain) (row_of_t n t chain) (row_of_c n c chain) over from)
+rows_with_cofactors_are_combinations p n w v t c chain prime are start = (kept.later_rows w v (rows_of_chain p n chain) (row_of_t n t chain) (row_of_c n c chain) over from, kept.zero_row w v (rows_of_chain p n chain) (row_of_t n t chain) (row_of_c n c chain) over from)
   where
     kept : KeepCombinations p n (c ∷ t ∷ chain)
     kept = combinations_are_kept p n (c ∷ t ∷ chain) prime are
@@ -45,13 +45,13 @@ last_is_zero p n v g [] z falls = falls.1
 last_is_zero p n v g (h ∷ later) z falls = last_is_zero p n v h later z falls.2
 
 pub zero_row_splits_zeros : ZeroRowSplitsZeros
-zero_row_splits_zeros p n w v r xs c t chain z ends domain point zeros = split (E.integral (E.val a) (E.val (c, ends.canonical.0)) (first_product_zero (polynomial_setting p n ends.prime) E (c, ends.canonical.0) (up_all p n ends.prime.many (t ∷ chain) ends.canonical.1) y (up_combination p n ends.prime (c ∷ t ∷ chain) ends.canonical z over) (generators_zero p n ends.prime r domain xs point (t ∷ chain) ends.canonical.1 zeros) (canonical_path p n _ _ is_zero)))
+zero_row_splits_zeros p n w v r xs t c chain z ends domain point zeros = split (E.integral (E.val a) (E.val (c, ends.canonical.0)) (first_product_zero (polynomial_setting p n ends.prime) E (c, ends.canonical.0) (up_all p n ends.prime.many (t ∷ chain) ends.canonical.1) y (up_combination p n ends.prime (c ∷ t ∷ chain) ends.canonical z over) (generators_zero p n ends.prime r domain xs point (t ∷ chain) ends.canonical.1 zeros) (canonical_path p n _ _ is_zero)))
   where
     E : Evaluation (polynomial_setting p n ends.prime) (Element r)
     E = table_evaluation p n ends.prime r domain xs point
 
     over : IsRowOver p n (c ∷ t ∷ chain) z
-    over = subst (IfRow (IsRowOver p n (c ∷ t ∷ chain))) ends.last (rows_with_cofactors_are_combinations p n w v c t chain ends.prime ends.canonical ends.start).1
+    over = subst (IfRow (IsRowOver p n (c ∷ t ∷ chain))) ends.last (rows_with_cofactors_are_combinations p n w v t c chain ends.prime ends.canonical ends.start).1
 
     y : Row (CanonicalPolynomial p n)
     y = up p n ends.prime.many z over.canonical
@@ -60,7 +60,7 @@ zero_row_splits_zeros p n w v r xs c t chain z ends domain point zeros = split (
     a = first_cofactor (canonical_operations p n ends.prime.many) y
 
     is_zero : z.first ≡ []
-    is_zero = last_is_zero p n v (row_of_c n c chain) (rows_with_cofactors p n w v c t chain).later z (subst (DegreesFall (list_operations p n) v (row_of_c n c chain) (rows_with_cofactors p n w v c t chain).later) ends.last (remainder_rows_fall p n w v (rows_of_chain p n chain) (row_of_t n t chain) (row_of_c n c chain) ends.prime (are_rows p n ends.prime v c t chain ends.canonical) (start_rows p n v c t chain ends.start)).falls)
+    is_zero = last_is_zero p n v (row_of_c n c chain) (rows_with_cofactors p n w v t c chain).later z (subst (DegreesFall (list_operations p n) v (row_of_c n c chain) (rows_with_cofactors p n w v t c chain).later) ends.last (remainder_rows_fall p n w v (rows_of_chain p n chain) (row_of_t n t chain) (row_of_c n c chain) ends.prime (are_rows p n ends.prime v t c chain ends.canonical) (start_rows p n v t c chain ends.start)).falls)
 
     first_is : a.0 ≡ first_cofactor (list_operations p n) z
     first_is = terms-first_cofactor p n ends.prime.many y ∙ ap (first_cofactor (list_operations p n)) (down-up p n ends.prime.many z over.canonical)

@@ -19,16 +19,24 @@ abbrev pub rows_of_chain : ℕ → ℕ → List Polynomial → List (Row Polynom
 rows_of_chain p n chain = unit_rows (list_operations p n) 2 chain
 
 -- the remainder rows of t and c in v below the chain, with cofactors of c, t and the chain
-abbrev pub rows_with_cofactors : ℕ → ℕ → ℕ → ℕ → Polynomial → Polynomial → List Polynomial → LaterRows Polynomial
-rows_with_cofactors p n w v c t chain = remainder_rows (list_operations p n) w v (rows_of_chain p n chain) (row_of_t n t chain) (row_of_c n c chain)
+abbrev pub rows_with_cofactors :
+    ℕ → ℕ → ℕ → ℕ → Polynomial → Polynomial → List Polynomial → LaterRows Polynomial
+rows_with_cofactors p n w v t c chain =
+    remainder_rows (list_operations p n) w v (rows_of_chain p n chain) (row_of_t n t chain)
+    (row_of_c n c chain)
 
 -- the leads in v of c and of the rows after it
-abbrev pub leads_from_c : ℕ → ℕ → ℕ → ℕ → Polynomial → Polynomial → List Polynomial → List Polynomial
-leads_from_c p n w v c t chain = leads (list_operations p n) v (row_of_c n c chain ∷ (rows_with_cofactors p n w v c t chain).later)
+abbrev pub leads_from_c :
+    ℕ → ℕ → ℕ → ℕ → Polynomial → Polynomial → List Polynomial → List Polynomial
+leads_from_c p n w v t c chain =
+    leads (list_operations p n) v
+    (row_of_c n c chain ∷ (rows_with_cofactors p n w v t c chain).later)
 
--- t and c are canonical and start remainder rows in v below the chain, which end with the zero row z
-pub record EndWithZeroRow (p n w v : ℕ) (c t : Polynomial) (chain : List Polynomial) (z : Row Polynomial) : Type 0 where
+-- t and c are canonical and start remainder rows in v below the chain, which end with the zero row
+-- z
+pub record EndWithZeroRow
+    (p n w v : ℕ) (t c : Polynomial) (chain : List Polynomial) (z : Row Polynomial) : Type 0 where
   pub prime : IsPrime p
   pub canonical : ArePolynomials p n (c ∷ t ∷ chain)
   pub start : StartRemainderRows v chain t c
-  pub last : (rows_with_cofactors p n w v c t chain).last ≡ Some z
+  pub last : (rows_with_cofactors p n w v t c chain).last ≡ Some z

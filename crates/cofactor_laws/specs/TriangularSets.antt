@@ -13,9 +13,9 @@ use Rattle.row_laws.specs.Words.{reduction_of, IsReducedBy}
 use Rattle.row_laws.specs.Members.{LacksMainFrom}
 use Rattle.cofactor_laws.specs.RowsWithCofactors.{row_of_c, rows_with_cofactors, leads_from_c}
 
--- in a triangular set of canonical polynomials t is the one for v, and the set reduces c, in which v
--- occurs and no greater main variable does: so t and c start remainder rows in v
-pub record StartIn (p n v : ℕ) (chain : List Polynomial) (c t : Polynomial) : Type 0 where
+-- in a triangular set of canonical polynomials t is the one for v, and the set reduces c, in which
+-- v occurs and no greater main variable does: so t and c start remainder rows in v
+pub record StartIn (p n v : ℕ) (chain : List Polynomial) (t c : Polynomial) : Type 0 where
   pub prime : IsPrime p
   pub canonical : ArePolynomials p n (c ∷ chain)
   pub triangular : IsTriangular chain
@@ -26,16 +26,16 @@ pub record StartIn (p n v : ℕ) (chain : List Polynomial) (c t : Polynomial) : 
 
 -- and their rows with cofactors, below v, end with the zero row z
 pub record EndWithZeroRowIn
-    (p n w v : ℕ) (chain : List Polynomial) (c t : Polynomial) (z : Row Polynomial) : Type 0 where
-  pub starts : StartIn p n v chain c t
-  pub last : (rows_with_cofactors p n w v c t (members_below v chain)).last ≡ Some z
+    (p n w v : ℕ) (chain : List Polynomial) (t c : Polynomial) (z : Row Polynomial) : Type 0 where
+  pub starts : StartIn p n v chain t c
+  pub last : (rows_with_cofactors p n w v t c (members_below v chain)).last ≡ Some z
 
 -- the last of the rows after c, or c where there is none
 abbrev pub last_with_cofactors :
     ℕ → ℕ → ℕ → ℕ → List Polynomial → Polynomial → Polynomial → Row Polynomial
-last_with_cofactors p n w v chain c t =
+last_with_cofactors p n w v chain t c =
     last_row (row_of_c n c (members_below v chain))
-    (rows_with_cofactors p n w v c t (members_below v chain)).later
+    (rows_with_cofactors p n w v t c (members_below v chain)).later
 
 -- f isn't 0, has neither v nor a greater main variable, and is reduced by the set
 pub record IsReducedBelow (v : ℕ) (chain : List Polynomial) (f : Polynomial) : Type 0 where
@@ -47,17 +47,30 @@ pub record IsReducedBelow (v : ℕ) (chain : List Polynomial) (f : Polynomial) :
 -- where the rows don't end with a zero row, that is how the last of them is
 abbrev pub LastRowsAreReduced : Type 0
 LastRowsAreReduced =
-    (p n w v : ℕ) (chain : List Polynomial) (c t : Polynomial)
-    → StartIn p n v chain c t
-    → (rows_with_cofactors p n w v c t (members_below v chain)).last ≡ None
-    → IsReducedBelow v chain (last_with_cofactors p n w v chain c t).first
+    (p n w v : ℕ) (chain : List Polynomial) (t c : Polynomial)
+    → StartIn p n v chain t c
+    → (rows_with_cofactors p n w v t c (members_below v chain)).last ≡ None
+    → IsReducedBelow v chain (last_with_cofactors p n w v chain t c).first
 
--- what the reduction of the zero row's cofactor of c shows of a point: it is zero there or c is; and
--- where it is 0 the lead of c or of a later row is zero there
-pub record ShowsZeros (p n w v : ℕ) (r : Tables) (xs : List ℕ) (chain : List Polynomial) (c t : Polynomial) (z : Row Polynomial) : Type 0 where
-  pub splits : (value_at r xs (reduction_of p n chain (first_cofactor (list_operations p n) z)) ≡ r.nil) ⊎ (value_at r xs c ≡ r.nil)
-  pub lead : reduction_of p n chain (first_cofactor (list_operations p n) z) ≡ [] → Any (λ l. value_at r xs l ≡ r.nil) (leads_from_c p n w v c t (members_below v chain))
+-- what the reduction of the zero row's cofactor of c shows of a point: it is zero there or c is;
+-- and where it is 0 the lead of c or of a later row is zero there
+pub record ShowsZeros
+    (p n w v : ℕ) (r : Tables) (xs : List ℕ) (chain : List Polynomial) (t c : Polynomial)
+    (z : Row Polynomial) : Type 0 where
+  pub splits :
+      (value_at r xs (reduction_of p n chain (first_cofactor (list_operations p n) z)) ≡ r.nil)
+      ⊎ (value_at r xs c ≡ r.nil)
+  pub lead :
+      reduction_of p n chain (first_cofactor (list_operations p n) z) ≡ []
+      → Any (λ l. value_at r xs l ≡ r.nil) (leads_from_c p n w v t c (members_below v chain))
 
 -- so it does at each point of the quasi-component
 abbrev pub ZeroRowsShowZeros : Type 0
-ZeroRowsShowZeros = (p n w v : ℕ) (r : Tables) (xs : List ℕ) (chain : List Polynomial) (c t : Polynomial) (z : Row Polynomial) → EndWithZeroRowIn p n w v chain c t z → IsFiniteDomain p r → IsPoint r xs → InQuasiComponent r xs chain → ShowsZeros p n w v r xs chain c t z
+ZeroRowsShowZeros =
+    (p n w v : ℕ) (r : Tables) (xs : List ℕ) (chain : List Polynomial) (t c : Polynomial)
+    (z : Row Polynomial)
+    → EndWithZeroRowIn p n w v chain t c z
+    → IsFiniteDomain p r
+    → IsPoint r xs
+    → InQuasiComponent r xs chain
+    → ShowsZeros p n w v r xs chain t c z

@@ -27,7 +27,8 @@ module _ {A : Type 0} (r : Ring A) (s : Views A) (laws : Laws A r s) where
   -- main variables increase, and each occurs in its member
   abbrev pub IsChain : List (Row A) → Type 0
   IsChain [] = Unit {0}
-  IsChain (t ∷ chain) = (1 ≤ s.degree (s.main t.first) t.first) × EachRow (IsBelow t) chain × IsChain chain
+  IsChain (t ∷ chain) =
+      (1 ≤ s.degree (s.main t.first) t.first) × EachRow (IsBelow t) chain × IsChain chain
 
   -- the degree of f in the main variable of t is less than that of t
   abbrev pub IsLessInMain : A → Row A → Type 0

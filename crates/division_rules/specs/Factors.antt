@@ -6,4 +6,7 @@ use Rattle.division_rules.specs.Points.{product_of_all}
 
 -- f is g times a product of members of bs, each as often as need be
 abbrev pub IsProductByMembers : ℕ → ℕ → List Polynomial → Polynomial → Polynomial → Type 0
-IsProductByMembers p n bs f g = (cs : List Polynomial) × All (Contains bs) cs × (product_of p g (product_of_all (list_operations p n) cs) ≡ f)
+IsProductByMembers p n bs f g =
+    (cs : List Polynomial)
+    × All (Contains bs) cs
+    × (product_of p g (product_of_all (list_operations p n) cs) ≡ f)

@@ -3,8 +3,8 @@ use Rattle.std.specs.Prelude.{ℕ, zero, suc, ◌-◌, Bool, Option}
 use Rattle.polynomials.specs.Rings.{Ring}
 use Rattle.polynomials.specs.Sums.{power_by}
 
--- what a polynomial shows: whether it is 0, degree and coefficients in a variable, its main variable,
--- powers of variables, products that fit a width, and quotients that fit it
+-- what a polynomial shows: whether it is 0, degree and coefficients in a variable, its main
+-- variable, powers of variables, products that fit a width, and quotients that fit it
 pub record Views (A : Type 0) : Type 0 where
   pub is_nil : A → Bool
   pub degree : ℕ → A → ℕ
@@ -25,7 +25,8 @@ pub record Operations (A : Type 0) : Type 0 where
 
 -- those of a ring
 abbrev pub operations_of : {A : Type 0} → Ring A → Views A → Operations A
-operations_of r s = record { nil = r.nil; one = r.one; plus = r.◌⊕◌; times = r.◌⊗◌; minus = r.neg; views = s }
+operations_of r s =
+    record { nil = r.nil; one = r.one; plus = r.◌⊕◌; times = r.◌⊗◌; minus = r.neg; views = s }
 
 module _ {A : Type 0} (o : Operations A) where
   -- the lead in v
@@ -38,7 +39,8 @@ module _ {A : Type 0} (o : Operations A) where
 
   -- the lead of f in v, times v to the power by which its degree passes that of g
   abbrev pub shifted_lead : ℕ → A → A → A
-  shifted_lead v f g = o.times (o.views.variable_power v (o.views.degree v f - o.views.degree v g)) (lead v f)
+  shifted_lead v f g =
+      o.times (o.views.variable_power v (o.views.degree v f - o.views.degree v g)) (lead v f)
 
   -- a to the power e
   abbrev pub power : A → ℕ → A

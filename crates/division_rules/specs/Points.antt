@@ -31,4 +31,5 @@ module _ {A : Type 0} (o : Operations A) where
   -- row from g on, but of the last row before it, has the value 0
   abbrev pub Vanish : {B : Type 0} → (A → B) → B → ℕ → Type 0 → Row A → List (Row A) → Type 0
   Vanish val null v H g [] = Unit {0}
-  Vanish val null v H g (h ∷ later) = (H → val h.first ≡ null) × Vanish val null v (H × (val (lead o v g.first) ≢ null)) h later
+  Vanish val null v H g (h ∷ later) =
+      (H → val h.first ≡ null) × Vanish val null v (H × (val (lead o v g.first) ≢ null)) h later

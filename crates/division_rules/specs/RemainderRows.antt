@@ -42,7 +42,9 @@ module _ {A : Type 0} (o : Operations A) where
   -- d - 1 of the psi before, for the fall d of the turn before, or (-l)^d where there is none
   abbrev pub psi : ℕ → TurnBefore → A → A
   psi w None l = o.minus o.one
-  psi w (Some m) l = unwrap_or (o.views.quotient w (power o (o.minus l) m.1) (power o m.0 (m.1 - 1))) (power o (o.minus l) m.1)
+  psi w (Some m) l =
+      unwrap_or (o.views.quotient w (power o (o.minus l) m.1) (power o m.0 (m.1 - 1)))
+      (power o (o.minus l) m.1)
 
   -- beta, for the lead l of the previous row, the new psi and the fall d of degree: (-1)^(d + 1) at
   -- first, else -l psi^d
@@ -67,7 +69,8 @@ module _ {A : Type 0} (o : Operations A) where
 
   -- the row after f and g, divided by beta where each entry has a quotient
   abbrev pub next_row : ℕ → ℕ → List (Row A) → TurnBefore → Row A → Row A → Row A
-  next_row w v chain m f g = unwrap_or (divided w (next_beta w v m f g) (undivided v chain f g)) (undivided v chain f g)
+  next_row w v chain m f g =
+      unwrap_or (divided w (next_beta w v m f g) (undivided v chain f g)) (undivided v chain f g)
 
   -- the rows after f and g, in at most k turns
   abbrev pub rows_from : ℕ → ℕ → List (Row A) → ℕ → TurnBefore → Row A → Row A → LaterRows A

@@ -18,7 +18,8 @@ module _ {A : Type 0} (o : Operations A) (w : ℕ) where
   psi_within None l = Some (o.minus o.one)
   psi_within (Some m) l = later_psi_within (o.minus l) m
 
-  -- beta after a turn, for the negative k of the lead of the previous row, psi and the fall d of degree
+  -- beta after a turn, for the negative k of the lead of the previous row, psi and the fall d of
+  -- degree
   abbrev pub later_beta_within : A → A → ℕ → Option A
   later_beta_within k q d = and_then (power_of_within o w q d) (λ x. times_within o w k x)
 
@@ -29,10 +30,13 @@ module _ {A : Type 0} (o : Operations A) (w : ℕ) where
 
   -- the row after f and g, before its division by beta
   abbrev pub undivided_within : ℕ → List (Row A) → Row A → Row A → Option (Row A)
-  undivided_within v chain f g = and_then (pseudo_remainder_within o w v f g) (λ h. reduction_within o w chain h)
+  undivided_within v chain f g =
+      and_then (pseudo_remainder_within o w v f g) (λ h. reduction_within o w chain h)
 
   -- the rows from the undivided row s on, for psi and beta
-  abbrev pub rows_onward : ℕ → (TurnBefore o → Row A → Row A → Option (LaterRows A)) → Row A → Row A → Row A → A → A → Option (LaterRows A)
+  abbrev pub rows_onward :
+      ℕ → (TurnBefore o → Row A → Row A → Option (LaterRows A)) → Row A → Row A → Row A → A → A
+      → Option (LaterRows A)
   rows_onward v further f g s q b =
       let h = unwrap_or (divided o w b s) s in
       elim (eqb (o.views.degree v h.first) 0) [
@@ -41,14 +45,18 @@ module _ {A : Type 0} (o : Operations A) (w : ℕ) where
       ]
 
   -- the rows after f and g, in at most k turns
-  abbrev pub rows_from_within : ℕ → List (Row A) → ℕ → TurnBefore o → Row A → Row A → Option (LaterRows A)
+  abbrev pub rows_from_within :
+      ℕ → List (Row A) → ℕ → TurnBefore o → Row A → Row A → Option (LaterRows A)
   rows_from_within v chain zero m f g = Some (record { later = []; last = None })
   rows_from_within v chain (suc k) m f g = and_then (undivided_within v chain f g) (λ s.
       elim (o.views.is_nil s.first) [
         | true ↦ Some (record { later = []; last = Some s })
-        | false ↦ and_then (psi_within m (lead o v f.first)) (λ q. and_then (beta_within m (lead o v f.first) q (fall o v f g)) (λ b. rows_onward v (λ n x y. rows_from_within v chain k n x y) f g s q b))
+        | false ↦ and_then (psi_within m (lead o v f.first)) (λ q.
+            and_then (beta_within m (lead o v f.first) q (fall o v f g)) (λ b.
+            rows_onward v (λ n x y. rows_from_within v chain k n x y) f g s q b))
       ])
 
   -- the remainder rows of t and c in v below the chain: those after t and c
   abbrev pub remainder_rows_within : ℕ → List (Row A) → Row A → Row A → Option (LaterRows A)
-  remainder_rows_within v chain t c = rows_from_within v chain (suc (o.views.degree v c.first)) None t c
+  remainder_rows_within v chain t c =
+      rows_from_within v chain (suc (o.views.degree v c.first)) None t c

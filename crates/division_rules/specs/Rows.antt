@@ -37,7 +37,11 @@ module _ {A : Type 0} (o : Operations A) where
 
   -- the same of each pair of entries of two rows
   abbrev pub cross_rows : A → A → Row A → Row A → Row A
-  cross_rows l m f g = record { first = cross l m f.first g.first; cofactors = cross_all l m f.cofactors g.cofactors }
+  cross_rows l m f g =
+      record {
+        first = cross l m f.first g.first;
+        cofactors = cross_all l m f.cofactors g.cofactors;
+      }
 
   -- one elimination: the lead of g times f, less the multiple of g with the same lead
   abbrev pub elimination : ℕ → Row A → Row A → Row A
@@ -45,12 +49,17 @@ module _ {A : Type 0} (o : Operations A) where
 
   -- no elimination by g is left: f is 0, or its degree in v is less than that of g
   abbrev pub is_reduced_by : ℕ → Row A → Row A → Bool
-  is_reduced_by v g f = o.views.is_nil f.first || ltb (o.views.degree v f.first) (o.views.degree v g.first)
+  is_reduced_by v g f =
+      o.views.is_nil f.first || ltb (o.views.degree v f.first) (o.views.degree v g.first)
 
   -- at most k eliminations by g, until none is left
   abbrev pub sparse_remainder_by : ℕ → Row A → ℕ → Row A → Row A
   sparse_remainder_by v g zero f = f
-  sparse_remainder_by v g (suc k) f = elim (is_reduced_by v g f) [ true ↦ f | false ↦ sparse_remainder_by v g k (elimination v f g) ]
+  sparse_remainder_by v g (suc k) f =
+      elim (is_reduced_by v g f) [
+        | true ↦ f
+        | false ↦ sparse_remainder_by v g k (elimination v f g)
+      ]
 
   -- one more than the degrees in v differ, which bounds the eliminations
   abbrev pub turns : ℕ → A → A → ℕ
@@ -80,7 +89,8 @@ module _ {A : Type 0} (o : Operations A) where
   abbrev pub pseudo_remainder : ℕ → Row A → Row A → Row A
   pseudo_remainder v f g = pseudo_remainder_by v g (turns v f.first g.first) f
 
-  -- the reduction by a chain: sparse remainders by its rows in their main variables, the last row first
+  -- the reduction by a chain: sparse remainders by its rows in their main variables, the last row
+  -- first
   abbrev pub reduction : List (Row A) → Row A → Row A
   reduction [] f = f
   reduction (t ∷ chain) f = sparse_remainder (o.views.main t.first) (reduction chain f) t

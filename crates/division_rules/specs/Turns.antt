@@ -15,19 +15,23 @@ module _ {A : Type 0} (o : Operations A) where
   -- of k turns, those that are left once no elimination by g is
   abbrev pub turns_left : ℕ → Row A → ℕ → Row A → ℕ
   turns_left v g zero f = zero
-  turns_left v g (suc k) f = elim (is_reduced_by o v g f) [ true ↦ suc k | false ↦ turns_left v g k (elimination o v f g) ]
+  turns_left v g (suc k) f =
+      elim (is_reduced_by o v g f) [ true ↦ suc k | false ↦ turns_left v g k (elimination o v f g) ]
 
   -- each entry k times multiplied by l
   abbrev pub times_row_often : A → ℕ → Row A → Row A
   times_row_often l zero f = f
   times_row_often l (suc k) f = times_row_often l k (times_row o l f)
 
-  -- the degrees in v fall from g along the rows later, and each is at least 1, but where no zero row
-  -- follows that of the last row is 0
+  -- the degrees in v fall from g along the rows later, and each is at least 1, but where no zero
+  -- row follows that of the last row is 0
   abbrev pub DegreesFall : ℕ → Row A → List (Row A) → Option (Row A) → Type 0
   DegreesFall v g [] None = o.views.degree v g.first ≡ 0
   DegreesFall v g [] (Some z) = (1 ≤ o.views.degree v g.first) × (z.first ≡ o.nil)
-  DegreesFall v g (h ∷ later) last = (o.views.degree v h.first < o.views.degree v g.first) × (1 ≤ o.views.degree v g.first) × DegreesFall v h later last
+  DegreesFall v g (h ∷ later) last =
+      (o.views.degree v h.first < o.views.degree v g.first)
+      × (1 ≤ o.views.degree v g.first)
+      × DegreesFall v h later last
 
 module _ {A : Type 0} (r : Ring A) (s : Views A) (laws : Laws A r s) where
   -- a chain below v: v is no main variable of it, and no member has v

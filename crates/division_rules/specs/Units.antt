@@ -9,7 +9,8 @@ unit_cofactors nil one before behind = replicate before nil ++ one ∷ replicate
 
 -- a generator as a row
 abbrev pub unit_row : {A : Type 0} → A → A → ℕ → ℕ → A → Row A
-unit_row nil one before behind f = record { first = f; cofactors = unit_cofactors nil one before behind }
+unit_row nil one before behind f =
+    record { first = f; cofactors = unit_cofactors nil one before behind }
 
 module _ {A : Type 0} (o : Operations A) where
   -- f has a cofactor for each generator, and its first entry is the sum of their products

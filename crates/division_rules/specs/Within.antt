@@ -14,26 +14,39 @@ module _ {A : Type 0} (o : Operations A) (w : ℕ) where
 
   -- l f - m g
   abbrev pub cross_within : A → A → A → A → Option A
-  cross_within l m f g = and_then (times_within l f) (λ x. and_then (times_within m g) (λ y. Some (o.plus x (o.minus y))))
+  cross_within l m f g =
+      and_then (times_within l f) (λ x.
+      and_then (times_within m g) (λ y. Some (o.plus x (o.minus y))))
 
   -- the same of each pair of entries
   abbrev pub cross_all_within : A → A → List A → List A → Option (List A)
   cross_all_within l m [] ds = Some []
   cross_all_within l m (c ∷ cs) [] = Some []
-  cross_all_within l m (c ∷ cs) (d ∷ ds) = and_then (cross_within l m c d) (λ x. and_then (cross_all_within l m cs ds) (λ xs. Some (x ∷ xs)))
+  cross_all_within l m (c ∷ cs) (d ∷ ds) =
+      and_then (cross_within l m c d) (λ x.
+      and_then (cross_all_within l m cs ds) (λ xs. Some (x ∷ xs)))
 
   -- the row of a first entry and cofactors, where there are both
   abbrev pub row_within : Option A → Option (List A) → Option (Row A)
-  row_within x xs = and_then x (λ f. and_then xs (λ cs. Some (record { first = f; cofactors = cs })))
+  row_within x xs =
+      and_then x (λ f. and_then xs (λ cs. Some (record { first = f; cofactors = cs })))
 
   -- one elimination
   abbrev pub elimination_within : ℕ → Row A → Row A → Option (Row A)
-  elimination_within v f g = row_within (cross_within (lead o v g.first) (shifted_lead o v f.first g.first) f.first g.first) (cross_all_within (lead o v g.first) (shifted_lead o v f.first g.first) f.cofactors g.cofactors)
+  elimination_within v f g =
+      row_within
+      (cross_within (lead o v g.first) (shifted_lead o v f.first g.first) f.first g.first)
+      (cross_all_within (lead o v g.first) (shifted_lead o v f.first g.first) f.cofactors
+       g.cofactors)
 
   -- at most k eliminations by g, until none is left
   abbrev pub sparse_remainder_by_within : ℕ → Row A → ℕ → Row A → Option (Row A)
   sparse_remainder_by_within v g zero f = Some f
-  sparse_remainder_by_within v g (suc k) f = elim (is_reduced_by o v g f) [ true ↦ Some f | false ↦ and_then (elimination_within v f g) (λ h. sparse_remainder_by_within v g k h) ]
+  sparse_remainder_by_within v g (suc k) f =
+      elim (is_reduced_by o v g f) [
+        | true ↦ Some f
+        | false ↦ and_then (elimination_within v f g) (λ h. sparse_remainder_by_within v g k h)
+      ]
 
   -- the sparse pseudo-remainder
   abbrev pub sparse_remainder_within : ℕ → Row A → Row A → Option (Row A)
@@ -42,7 +55,8 @@ module _ {A : Type 0} (o : Operations A) (w : ℕ) where
   -- each entry times l
   abbrev pub times_all_within : A → List A → Option (List A)
   times_all_within l [] = Some []
-  times_all_within l (c ∷ cs) = and_then (times_within l c) (λ x. and_then (times_all_within l cs) (λ xs. Some (x ∷ xs)))
+  times_all_within l (c ∷ cs) =
+      and_then (times_within l c) (λ x. and_then (times_all_within l cs) (λ xs. Some (x ∷ xs)))
 
   -- each entry of a row times l
   abbrev pub times_row_within : A → Row A → Option (Row A)
@@ -68,7 +82,8 @@ module _ {A : Type 0} (o : Operations A) (w : ℕ) where
   -- the reduction by a chain
   abbrev pub reduction_within : List (Row A) → Row A → Option (Row A)
   reduction_within [] f = Some f
-  reduction_within (t ∷ chain) f = and_then (reduction_within chain f) (λ g. sparse_remainder_within (o.views.main t.first) g t)
+  reduction_within (t ∷ chain) f =
+      and_then (reduction_within chain f) (λ g. sparse_remainder_within (o.views.main t.first) g t)
 
   -- a to the power e
   abbrev pub power_of_within : A → ℕ → Option A

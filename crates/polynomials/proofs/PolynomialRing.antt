@@ -6,7 +6,7 @@ use native.Mathlib.Bridge.{le_prop}
 use Rattle.std.specs.Ordering.{Ordering-set}
 use Rattle.polynomials.specs.Monomials.{Monomial}
 use Rattle.polynomials.specs.Polynomials.{Polynomial, StartsBelow, IsPolynomial, sum_of, product_of, negative_of, one_of}
-use Rattle.polynomials.specs.Laws.{PolynomialsMakeARing}
+use Rattle.polynomials.specs.RingLaws.{PolynomialsMakeARing}
 use Rattle.polynomials.specs.Rings.{Ring}
 use Rattle.polynomials.proofs.Canonical.{IsPolynomial-sum_of, IsPolynomial-product_of, IsPolynomial-negative_of, IsPolynomial-one_of}
 use Rattle.polynomials.proofs.PolynomialLaws.{sum_of_comm, sum_of_assoc, zero-sum_of, negative_of-sum_of, product_of_comm, product_of_assoc, one_of-product_of, product_of-sum_of}

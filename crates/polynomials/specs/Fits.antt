@@ -24,7 +24,11 @@ is_exponent_list (e ∷ m) = leb e most_exponent && is_exponent_list m
 -- f times g fits the width w: a factor is 0, or the numbers of terms have a product of at most w
 -- and in each variable the degrees add to at most the greatest exponent
 abbrev pub fits : ℕ → Polynomial → Polynomial → Bool
-fits w f g = is_zero f || (is_zero g || (leb (length f * length g) w && is_exponent_list (monomial_product (degrees f) (degrees g))))
+fits w f g =
+    is_zero f
+    || (is_zero g
+        || (leb (length f * length g) w
+            && is_exponent_list (monomial_product (degrees f) (degrees g))))
 
 -- the product, where it fits
 abbrev pub product_within : ℕ → ℕ → Polynomial → Polynomial → Option Polynomial

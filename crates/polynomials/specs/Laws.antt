@@ -1,49 +1,62 @@
--- The laws of polynomials: a ring, without zero divisors over a prime field, with degrees and leads.
+-- The laws of polynomials: no zero divisors over a prime field, degrees, leads, and what fits.
 use Rattle.std.specs.Prelude.{◌≡◌, ◌≢◌, ◌⊎◌, ◌↔◌, ℕ, ◌+◌, ◌*◌, ◌%◌, ◌<◌, ◌≤◌, true, [], ◌∷◌, length, Some, Contains}
 use Rattle.polynomials.specs.Primes.{IsPrime, IsInverse, field_primes, inverse_of}
 use Rattle.polynomials.specs.Monomials.{monomial_product}
-use Rattle.polynomials.specs.Polynomials.{Term, term, Polynomial, IsPolynomial, sum_of, product_of, negative_of, one_of, variable_power, monic}
+use Rattle.polynomials.specs.Polynomials.{Term, term, Polynomial, IsPolynomial, sum_of, product_of, variable_power, monic}
 use Rattle.polynomials.specs.Views.{degree_in, lead_in, tail_in, main_var, IsFreeOf}
 use Rattle.polynomials.specs.Fits.{most_exponent, fits, power_of, power_within}
 
--- the polynomials in n variables modulo p: closed under the operations, and a commutative ring
-pub record MakeARing (p n : ℕ) : Type 0 where
-  pub one_of_them : IsPolynomial p n (one_of n)
-  pub sum_of_them : (f g : Polynomial) → IsPolynomial p n f → IsPolynomial p n g → IsPolynomial p n (sum_of p f g)
-  pub negative_of_them : (f : Polynomial) → IsPolynomial p n f → IsPolynomial p n (negative_of p f)
-  pub product_of_them : (f g : Polynomial) → IsPolynomial p n f → IsPolynomial p n g → IsPolynomial p n (product_of p f g)
-  pub add_comm : (f g : Polynomial) → IsPolynomial p n f → IsPolynomial p n g → sum_of p f g ≡ sum_of p g f
-  pub add_assoc : (f g h : Polynomial) → IsPolynomial p n f → IsPolynomial p n g → IsPolynomial p n h → sum_of p (sum_of p f g) h ≡ sum_of p f (sum_of p g h)
-  pub zero-add : (f : Polynomial) → IsPolynomial p n f → sum_of p [] f ≡ f
-  pub negative-add : (f : Polynomial) → IsPolynomial p n f → sum_of p (negative_of p f) f ≡ []
-  pub mul_comm : (f g : Polynomial) → IsPolynomial p n f → IsPolynomial p n g → product_of p f g ≡ product_of p g f
-  pub mul_assoc : (f g h : Polynomial) → IsPolynomial p n f → IsPolynomial p n g → IsPolynomial p n h → product_of p (product_of p f g) h ≡ product_of p f (product_of p g h)
-  pub one-mul : (f : Polynomial) → IsPolynomial p n f → product_of p (one_of n) f ≡ f
-  pub mul-add : (f g h : Polynomial) → IsPolynomial p n f → IsPolynomial p n g → IsPolynomial p n h → product_of p f (sum_of p g h) ≡ sum_of p (product_of p f g) (product_of p f h)
-
--- for every modulus of at least 2 and every number of variables
-abbrev pub PolynomialsMakeARing : Type 0
-PolynomialsMakeARing = (p n : ℕ) → 1 < p → MakeARing p n
-
 -- over a prime field a product is 0 only where a factor is
 abbrev pub NoZeroDivisors : Type 0
-NoZeroDivisors = (p n : ℕ) (f g : Polynomial) → IsPrime p → IsPolynomial p n f → IsPolynomial p n g → product_of p f g ≡ [] → (f ≡ []) ⊎ (g ≡ [])
+NoZeroDivisors =
+    (p n : ℕ) (f g : Polynomial)
+    → IsPrime p
+    → IsPolynomial p n f
+    → IsPolynomial p n g
+    → product_of p f g ≡ []
+    → (f ≡ []) ⊎ (g ≡ [])
 
 -- there is at most one quotient by a polynomial other than 0
 abbrev pub QuotientIsUnique : Type 0
-QuotientIsUnique = (p n : ℕ) (q r b : Polynomial) → IsPrime p → IsPolynomial p n q → IsPolynomial p n r → IsPolynomial p n b → b ≢ [] → product_of p q b ≡ product_of p r b → q ≡ r
+QuotientIsUnique =
+    (p n : ℕ) (q r b : Polynomial)
+    → IsPrime p
+    → IsPolynomial p n q
+    → IsPolynomial p n r
+    → IsPolynomial p n b
+    → b ≢ []
+    → product_of p q b ≡ product_of p r b
+    → q ≡ r
 
 -- the first term of a product is the product of the first terms
 abbrev pub FirstTermOfProduct : Type 0
-FirstTermOfProduct = (p n : ℕ) (t u : Term) (f g : Polynomial) → IsPrime p → IsPolynomial p n (t ∷ f) → IsPolynomial p n (u ∷ g) → (rest : Polynomial) × (product_of p (t ∷ f) (u ∷ g) ≡ term (monomial_product t.0 u.0) (t.1 * u.1 % p) ∷ rest)
+FirstTermOfProduct =
+    (p n : ℕ) (t u : Term) (f g : Polynomial)
+    → IsPrime p
+    → IsPolynomial p n (t ∷ f)
+    → IsPolynomial p n (u ∷ g)
+    → (rest : Polynomial)
+      × (product_of p (t ∷ f) (u ∷ g) ≡ term (monomial_product t.0 u.0) (t.1 * u.1 % p) ∷ rest)
 
 -- degrees add
 abbrev pub DegreeOfProduct : Type 0
-DegreeOfProduct = (p n v : ℕ) (f g : Polynomial) → IsPrime p → IsPolynomial p n f → IsPolynomial p n g → f ≢ [] → g ≢ [] → degree_in v (product_of p f g) ≡ degree_in v f + degree_in v g
+DegreeOfProduct =
+    (p n v : ℕ) (f g : Polynomial)
+    → IsPrime p
+    → IsPolynomial p n f
+    → IsPolynomial p n g
+    → f ≢ []
+    → g ≢ []
+    → degree_in v (product_of p f g) ≡ degree_in v f + degree_in v g
 
 -- the lead of a product is the product of the leads
 abbrev pub LeadOfProduct : Type 0
-LeadOfProduct = (p n v : ℕ) (f g : Polynomial) → IsPrime p → IsPolynomial p n f → IsPolynomial p n g → lead_in v (product_of p f g) ≡ product_of p (lead_in v f) (lead_in v g)
+LeadOfProduct =
+    (p n v : ℕ) (f g : Polynomial)
+    → IsPrime p
+    → IsPolynomial p n f
+    → IsPolynomial p n g
+    → lead_in v (product_of p f g) ≡ product_of p (lead_in v f) (lead_in v g)
 
 -- lead and tail are polynomials, no v occurs in the lead, and the tail has the smaller degree
 pub record AreLeadAndTail (p n v : ℕ) (f : Polynomial) : Type 0 where
@@ -52,7 +65,9 @@ pub record AreLeadAndTail (p n v : ℕ) (f : Polynomial) : Type 0 where
   pub free : IsFreeOf v (lead_in v f)
   pub nonzero : f ≢ [] → lead_in v f ≢ []
   pub falls : 0 < degree_in v f → degree_in v (tail_in v f) < degree_in v f
-  pub whole : v < n → sum_of p (product_of p (lead_in v f) (variable_power n v (degree_in v f))) (tail_in v f) ≡ f
+  pub whole :
+      v < n
+      → sum_of p (product_of p (lead_in v f) (variable_power n v (degree_in v f))) (tail_in v f) ≡ f
 
 -- a polynomial is its lead times a power of the variable, and its tail
 abbrev pub LeadAndTail : Type 0
@@ -60,27 +75,54 @@ LeadAndTail = (p n v : ℕ) (f : Polynomial) → 1 < p → IsPolynomial p n f �
 
 -- the main variable occurs, and no greater one does
 abbrev pub MainVariableIsGreatest : Type 0
-MainVariableIsGreatest = (v : ℕ) (f : Polynomial) → (main_var f ≡ Some v) ↔ ((0 < degree_in v f) × ((w : ℕ) → v < w → IsFreeOf w f))
+MainVariableIsGreatest =
+    (v : ℕ) (f : Polynomial)
+    → (main_var f ≡ Some v) ↔ ((0 < degree_in v f) × ((w : ℕ) → v < w → IsFreeOf w f))
 
 -- a variable that two polynomials are free of doesn't occur in their sum or product
 abbrev pub FreenessIsKept : Type 0
-FreenessIsKept = (p n v : ℕ) (f g : Polynomial) → IsPolynomial p n f → IsPolynomial p n g → IsFreeOf v f → IsFreeOf v g → IsFreeOf v (sum_of p f g) × IsFreeOf v (product_of p f g)
+FreenessIsKept =
+    (p n v : ℕ) (f g : Polynomial)
+    → IsPolynomial p n f
+    → IsPolynomial p n g
+    → IsFreeOf v f
+    → IsFreeOf v g
+    → IsFreeOf v (sum_of p f g) × IsFreeOf v (product_of p f g)
 
 -- nor does one that doesn't occur in a product other than 0 occur in a factor
 abbrev pub FactorsAreFree : Type 0
-FactorsAreFree = (p n v : ℕ) (f g : Polynomial) → IsPrime p → IsPolynomial p n f → IsPolynomial p n g → product_of p f g ≢ [] → IsFreeOf v (product_of p f g) → IsFreeOf v f × IsFreeOf v g
+FactorsAreFree =
+    (p n v : ℕ) (f g : Polynomial)
+    → IsPrime p
+    → IsPolynomial p n f
+    → IsPolynomial p n g
+    → product_of p f g ≢ []
+    → IsFreeOf v (product_of p f g)
+    → IsFreeOf v f × IsFreeOf v g
 
 -- f divided by its first coefficient is a polynomial whose first coefficient is 1
 abbrev pub MonicIsMonic : Type 0
-MonicIsMonic = (p n : ℕ) (t : Term) (f : Polynomial) → IsPrime p → IsPolynomial p n (t ∷ f) → IsPolynomial p n (monic p (t ∷ f)) × ((rest : Polynomial) × (monic p (t ∷ f) ≡ term t.0 1 ∷ rest))
+MonicIsMonic =
+    (p n : ℕ) (t : Term) (f : Polynomial)
+    → IsPrime p
+    → IsPolynomial p n (t ∷ f)
+    → IsPolynomial p n (monic p (t ∷ f))
+      × ((rest : Polynomial) × (monic p (t ∷ f) ≡ term t.0 1 ∷ rest))
 
 -- what it is to fit, variable by variable
 abbrev pub FitsInEachVariable : Type 0
-FitsInEachVariable = (w : ℕ) (f g : Polynomial) → (fits w f g ≡ true) ↔ ((f ≡ []) ⊎ ((g ≡ []) ⊎ ((length f * length g ≤ w) × ((v : ℕ) → degree_in v f + degree_in v g ≤ most_exponent))))
+FitsInEachVariable =
+    (w : ℕ) (f g : Polynomial)
+    → (fits w f g ≡ true)
+      ↔ ((f ≡ [])
+         ⊎ ((g ≡ [])
+            ⊎ ((length f * length g ≤ w)
+               × ((v : ℕ) → degree_in v f + degree_in v g ≤ most_exponent))))
 
 -- a power within a width is the power
 abbrev pub PowerWithinIsPower : Type 0
-PowerWithinIsPower = (p n w e : ℕ) (f g : Polynomial) → power_within p n w f e ≡ Some g → g ≡ power_of p n f e
+PowerWithinIsPower =
+    (p n w e : ℕ) (f g : Polynomial) → power_within p n w f e ≡ Some g → g ≡ power_of p n f e
 
 -- the numbers of the table are primes
 abbrev pub FieldPrimesArePrimes : Type 0

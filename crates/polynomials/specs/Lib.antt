@@ -1,5 +1,6 @@
 pub mod Primes
 pub mod Monomials
+pub mod MonomialProducts
 pub mod MonomialOrders
 pub mod Polynomials
 pub mod Equalities
@@ -8,4 +9,5 @@ pub mod Triangular
 pub mod Sums
 pub mod Fits
 pub mod Rings
+pub mod RingLaws
 pub mod Laws

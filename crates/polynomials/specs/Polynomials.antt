@@ -25,7 +25,8 @@ StartsBelow m (u ∷ f) = monomial_order u.0 m ≡ Less
 -- canonical form: n exponents a term, coefficients from 1 to p - 1, strictly falling monomials
 abbrev pub IsPolynomial : ℕ → ℕ → Polynomial → Type 0
 IsPolynomial p n [] = Unit {0}
-IsPolynomial p n (t ∷ f) = (length t.0 ≡ n) × (0 < t.1) × (t.1 < p) × StartsBelow t.0 f × IsPolynomial p n f
+IsPolynomial p n (t ∷ f) =
+    (length t.0 ≡ n) × (0 < t.1) × (t.1 < p) × StartsBelow t.0 f × IsPolynomial p n f
 
 -- each of them is in canonical form
 abbrev pub ArePolynomials : ℕ → ℕ → List Polynomial → Type 0

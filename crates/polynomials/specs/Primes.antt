@@ -17,7 +17,8 @@ IsInverse p a b = (b < p) × (a * b % p ≡ 1)
 -- the first inverse of a modulo p among the k numbers from b on, or 0 where there is none
 abbrev pub first_inverse : ℕ → ℕ → ℕ → ℕ → ℕ
 first_inverse p a zero b = 0
-first_inverse p a (suc k) b = elim (eqb (a * b % p) 1) [ true ↦ b | false ↦ first_inverse p a k (suc b) ]
+first_inverse p a (suc k) b =
+    elim (eqb (a * b % p) 1) [ true ↦ b | false ↦ first_inverse p a k (suc b) ]
 
 -- the inverse of a modulo p, for a prime p and a residue a other than 0
 abbrev pub inverse_of : ℕ → ℕ → ℕ

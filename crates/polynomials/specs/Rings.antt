@@ -42,7 +42,8 @@ power_in r x (suc e) = r.◌⊗◌ x (power_in r x e)
 -- the sum over the terms of f of the coefficient times the weight of the monomial
 abbrev pub weighted_sum : {A : Type 0} → Ring A → (Monomial → A) → List Term → A
 weighted_sum r weight [] = r.nil
-weighted_sum r weight (t ∷ f) = r.◌⊕◌ (r.◌⊗◌ (natural_in r t.1) (weight t.0)) (weighted_sum r weight f)
+weighted_sum r weight (t ∷ f) =
+    r.◌⊕◌ (r.◌⊗◌ (natural_in r t.1) (weight t.0)) (weighted_sum r weight f)
 
 -- the product of the powers of the coordinates
 abbrev pub monomial_value : {A : Type 0} → Ring A → List A → Monomial → A

@@ -12,12 +12,15 @@ degree_in v (t ∷ f) = max (exponent_of v t.0) (degree_in v f)
 -- the coefficient of v to the power k, a polynomial without v
 abbrev pub coefficient_in : ℕ → ℕ → Polynomial → Polynomial
 coefficient_in v k [] = []
-coefficient_in v k (t ∷ f) = cond (eqb (exponent_of v t.0) k) (term (set t.0 v 0) t.1 ∷ coefficient_in v k f) (coefficient_in v k f)
+coefficient_in v k (t ∷ f) =
+    cond (eqb (exponent_of v t.0) k) (term (set t.0 v 0) t.1 ∷ coefficient_in v k f)
+    (coefficient_in v k f)
 
 -- the terms of f whose power of v isn't k
 abbrev pub without_power : ℕ → ℕ → Polynomial → Polynomial
 without_power v k [] = []
-without_power v k (t ∷ f) = cond (eqb (exponent_of v t.0) k) (without_power v k f) (t ∷ without_power v k f)
+without_power v k (t ∷ f) =
+    cond (eqb (exponent_of v t.0) k) (without_power v k f) (t ∷ without_power v k f)
 
 -- the lead in v: the coefficient of the greatest power of v
 abbrev pub lead_in : ℕ → Polynomial → Polynomial

@@ -1,4 +1,5 @@
-ghost use Rattle.polynomials.specs.Laws.{PolynomialsMakeARing, NoZeroDivisors, QuotientIsUnique, FirstTermOfProduct, DegreeOfProduct, LeadOfProduct, LeadAndTail, MainVariableIsGreatest, FreenessIsKept, FactorsAreFree, MonicIsMonic, FitsInEachVariable, PowerWithinIsPower};
+ghost use Rattle.polynomials.specs.Laws.{NoZeroDivisors, QuotientIsUnique, FirstTermOfProduct, DegreeOfProduct, LeadOfProduct, LeadAndTail, MainVariableIsGreatest, FreenessIsKept, FactorsAreFree, MonicIsMonic, FitsInEachVariable, PowerWithinIsPower};
+ghost use Rattle.polynomials.specs.RingLaws.{PolynomialsMakeARing};
 
 /// Sums, negatives and products of polynomials are polynomials, and a commutative ring.
 pub fn polynomials_make_a_ring()

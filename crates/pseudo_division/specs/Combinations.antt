@@ -9,4 +9,8 @@ use Rattle.pseudo_division.specs.FieldOperations.{operations}
 
 -- over whatever polynomials each of the rows is the sum of its cofactors times them, so is h
 abbrev pub IsCombinationWhere : ℕ → List (Row Polynomial) → Row Polynomial → Type 0
-IsCombinationWhere p rows h = (generators : List Polynomial) → ArePolynomials p VARS generators → EachRow (IsCombinationOf (operations p) generators) rows → IsCombinationOf (operations p) generators h
+IsCombinationWhere p rows h =
+    (generators : List Polynomial)
+    → ArePolynomials p VARS generators
+    → EachRow (IsCombinationOf (operations p) generators) rows
+    → IsCombinationOf (operations p) generators h

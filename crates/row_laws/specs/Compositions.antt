@@ -15,8 +15,8 @@ spread count [] = replicate count []
 spread count (a ∷ []) = replicate count []
 spread count (a ∷ b ∷ bs) = [] ∷ bs ++ b ∷ replicate (count - length (a ∷ b ∷ bs)) []
 
--- the first entry of next, whose first cofactor a is that of c, with a times the cofactors of the row
--- for c and the other cofactors of next
+-- the first entry of next, whose first cofactor a is that of c, with a times the cofactors of the
+-- row for c and the other cofactors of next
 abbrev pub composition : ℕ → ℕ → Row Polynomial → Row Polynomial → Row Polynomial
 composition p n f next = record {
   first = next.first;
@@ -26,8 +26,8 @@ composition p n f next = record {
       (spread (length f.cofactors) next.cofactors);
 }
 
--- where f is a row over h, a list with t in it, and more, and next one over f's first entry, t and what
--- stands before t, the composition is a row over the generators of f
+-- where f is a row over h, a list with t in it, and more, and next one over f's first entry, t and
+-- what stands before t, the composition is a row over the generators of f
 abbrev pub CompositionsAreRows : Type 0
 CompositionsAreRows =
     (p n : ℕ) (h t : Polynomial) (before more : List Polynomial) (f next : Row Polynomial)

@@ -9,8 +9,8 @@ use Rattle.division_rules.specs.Lists.{list_operations}
 use Rattle.division_rules.specs.Points.{product_of_all}
 use Rattle.row_laws.specs.Words.{pseudo_remainder_of, reduction_of}
 
--- f, times the lead of g to the power d - e + 1 for the degrees d and e in v, is a multiple of g and
--- the pseudo-remainder
+-- f, times the lead of g to the power d - e + 1 for the degrees d and e in v, is a multiple of g
+-- and the pseudo-remainder
 pub record IsPseudoDivision (p n v : ℕ) (f g : Polynomial) : Type 0 where
   pub quotient : Polynomial
   pub canonical : IsPolynomial p n quotient

@@ -32,13 +32,13 @@ module _ (p w v : ℕ) (prime : IsPrime p) (t c : Polynomial) (chain : List Poly
 
   -- the rows without a limit on products
   abbrev rows : LaterRows Polynomial
-  rows = rows_with_cofactors p VARS w v c t chain
+  rows = rows_with_cofactors p VARS w v t c chain
 
   is_unlimited : (found : LaterRows Polynomial) → within ≡ Some found → rows ≡ found
   is_unlimited found e = sym (gives_is within found rows (gives-remainder_rows (operations p) w v (generator_rows p true 2 chain) first second) e)
 
   -- what holds where the rows end with a zero row holds of a common outcome
-  by_zero_row : (P : RemainderRows → Row Polynomial → Type 0) → ((z : Row Polynomial) → EndWithZeroRow p VARS w v c t chain z → P (with_leads p v (first ∷ second ∷ rows.later)) z) → IfCommon P (remainders_of p w v true t c chain)
+  by_zero_row : (P : RemainderRows → Row Polynomial → Type 0) → ((z : Row Polynomial) → EndWithZeroRow p VARS w v t c chain z → P (with_leads p v (first ∷ second ∷ rows.later)) z) → IfCommon P (remainders_of p w v true t c chain)
   by_zero_row P each = go within refl
     where
       by_last : (last : Option (Row Polynomial)) → rows.last ≡ last → IfCommon P (ended (with_leads p v (first ∷ second ∷ rows.later)) last)
@@ -51,12 +51,12 @@ module _ (p w v : ℕ) (prime : IsPrime p) (t c : Polynomial) (chain : List Poly
 
   -- the degree and the lead grow from row to row
   pub cofactor_steps : IfCommon (HasCofactorSteps p w v chain) (remainders_of p w v true t c chain)
-  cofactor_steps = by_zero_row (HasCofactorSteps p w v chain) (λ z ends. subst (λ last. AreCofactorSteps (operations p) w v (generator_rows p true 2 chain) (degree_in v t) None first second rows.later last) ends.last (cofactors_grow_by_falls p VARS w v c t chain prime (ic, (it, are)) start))
+  cofactor_steps = by_zero_row (HasCofactorSteps p w v chain) (λ z ends. subst (λ last. AreCofactorSteps (operations p) w v (generator_rows p true 2 chain) (degree_in v t) None first second rows.later last) ends.last (cofactors_grow_by_falls p VARS w v t c chain prime (ic, (it, are)) start))
 
   -- the lead is zero by those of the rows
   pub cofactor_lead : IfCommon (VanishesByLeads p v t chain) (remainders_of p w v true t c chain)
-  cofactor_lead = by_zero_row (VanishesByLeads p v t chain) (λ z ends d xs. cofactor_lead_is_zero_by_leads p VARS w v d xs c t chain z ends)
+  cofactor_lead = by_zero_row (VanishesByLeads p v t chain) (λ z ends d xs. cofactor_lead_is_zero_by_leads p VARS w v d xs t c chain z ends)
 
   -- a cofactor that reduces to 0 shows a lead that is zero
-  pub reduced_cofactor : IfCommon (ShowsLeadWhereReduced p v c t chain) (remainders_of p w v true t c chain)
-  reduced_cofactor = by_zero_row (ShowsLeadWhereReduced p v c t chain) (λ z ends d xs more. reduced_cofactor_shows_lead p VARS w v d xs c t chain more z ends)
+  pub reduced_cofactor : IfCommon (ShowsLeadWhereReduced p v t c chain) (remainders_of p w v true t c chain)
+  reduced_cofactor = by_zero_row (ShowsLeadWhereReduced p v t c chain) (λ z ends d xs more. reduced_cofactor_shows_lead p VARS w v d xs t c chain more z ends)

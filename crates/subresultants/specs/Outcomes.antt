@@ -20,13 +20,16 @@ ended rows None = Coprime rows
 ended rows (Some z) = Common rows z
 
 -- the rows so far with those that follow, where each product fits
-abbrev pub outcome_after : ℕ → ℕ → List (Row Polynomial) → Option (LaterRows Polynomial) → Remainders
+abbrev pub outcome_after :
+    ℕ → ℕ → List (Row Polynomial) → Option (LaterRows Polynomial) → Remainders
 outcome_after p v before None = TooWide
 outcome_after p v before (Some rows) = ended (with_leads p v (before ++ rows.later)) rows.last
 
 -- the remainder rows of the rows t and c in v below a chain of rows, within a width
-abbrev pub outcome_of : ℕ → ℕ → ℕ → List (Row Polynomial) → Row Polynomial → Row Polynomial → Remainders
-outcome_of p w v chain t c = outcome_after p v (t ∷ c ∷ []) (remainder_rows_within (operations p) w v chain t c)
+abbrev pub outcome_of :
+    ℕ → ℕ → ℕ → List (Row Polynomial) → Row Polynomial → Row Polynomial → Remainders
+outcome_of p w v chain t c =
+    outcome_after p v (t ∷ c ∷ []) (remainder_rows_within (operations p) w v chain t c)
 
 -- those of the polynomials t and c, where each row has cofactors of c, t and the chain, or none has
 abbrev pub remainders_of : ℕ → ℕ → ℕ → Bool → Polynomial → Polynomial → List Polynomial → Remainders

@@ -52,12 +52,24 @@ IfCoprime P TooWide = Unit {0}
 
 -- the last lead is the last row's first entry
 abbrev pub EndsWithItsLead : RemainderRows → Type 0
-EndsWithItsLead r = (f : Row Polynomial) → slice_get r.rows (length r.rows - 1) ≡ Some f → slice_get r.leads (length r.leads - 1) ≡ Some f.first
+EndsWithItsLead r =
+    (f : Row Polynomial)
+    → slice_get r.rows (length r.rows - 1) ≡ Some f
+    → slice_get r.leads (length r.leads - 1) ≡ Some f.first
 
 -- at a point row i is zero where none of the leads l_1 to l_(i-2) is
 abbrev pub VanishesBehindLeads : Tables → List ℕ → RemainderRows → Type 0
-VanishesBehindLeads d xs r = (i : ℕ) (f : Row Polynomial) → slice_get r.rows i ≡ Some f → AreNonZero d xs (take (i - 2) r.leads) → value_at d xs f.first ≡ d.nil
+VanishesBehindLeads d xs r =
+    (i : ℕ) (f : Row Polynomial)
+    → slice_get r.rows i ≡ Some f
+    → AreNonZero d xs (take (i - 2) r.leads)
+    → value_at d xs f.first ≡ d.nil
 
 -- and so it is at each point of a finite domain that makes the generators zero
 abbrev pub VanishesWithGenerators : ℕ → List Polynomial → RemainderRows → Type 0
-VanishesWithGenerators p gs r = (d : Tables) (xs : List ℕ) → IsFiniteDomain p d → IsPoint d xs → InZeroSet d xs gs → VanishesBehindLeads d xs r
+VanishesWithGenerators p gs r =
+    (d : Tables) (xs : List ℕ)
+    → IsFiniteDomain p d
+    → IsPoint d xs
+    → InZeroSet d xs gs
+    → VanishesBehindLeads d xs r

@@ -59,7 +59,7 @@ pub fn remainder_rows(
     ensures cofactor_lead { cofactors ≡ true → IfOk result (IfCommon
         (VanishesByLeads w.field v t.now below.now)) }
     ensures shown_lead { cofactors ≡ true → IfOk result (IfCommon
-        (ShowsLeadWhereReduced w.field v c.now t.now below.now)) }
+        (ShowsLeadWhereReduced w.field v t.now c.now below.now)) }
 {
     // Tells that the modulus is prime.
     let _ = w.field.prime();

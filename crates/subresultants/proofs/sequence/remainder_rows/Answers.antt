@@ -78,4 +78,4 @@ pub returns-clause-cofactor_lead : goal.returns-clause-cofactor_lead
 returns-clause-cofactor_lead c with_cofactors = if_ok (IfCommon (VanishesByLeads c.args.w.field c.args.v c.args.t.now c.args.below.now)) (remainders_of c.args.w.field c.args.w.width c.args.v c.args.cofactors c.args.t.now c.args.c.now c.args.below.now) c.rows_of.result (returns-clause-value c) (subst (λ (b : Bool). IfCommon (VanishesByLeads c.args.w.field c.args.v c.args.t.now c.args.below.now) (remainders_of c.args.w.field c.args.w.width c.args.v b c.args.t.now c.args.c.now c.args.below.now)) (sym with_cofactors) (cofactor_lead c.args.w.field c.args.w.width c.args.v c.prime.ensures.prime c.args.t.now c.args.c.now c.args.below.now c.requires.first c.requires.second c.requires.chain c.requires.start))
 
 pub returns-clause-shown_lead : goal.returns-clause-shown_lead
-returns-clause-shown_lead c with_cofactors = if_ok (IfCommon (ShowsLeadWhereReduced c.args.w.field c.args.v c.args.c.now c.args.t.now c.args.below.now)) (remainders_of c.args.w.field c.args.w.width c.args.v c.args.cofactors c.args.t.now c.args.c.now c.args.below.now) c.rows_of.result (returns-clause-value c) (subst (λ (b : Bool). IfCommon (ShowsLeadWhereReduced c.args.w.field c.args.v c.args.c.now c.args.t.now c.args.below.now) (remainders_of c.args.w.field c.args.w.width c.args.v b c.args.t.now c.args.c.now c.args.below.now)) (sym with_cofactors) (reduced_cofactor c.args.w.field c.args.w.width c.args.v c.prime.ensures.prime c.args.t.now c.args.c.now c.args.below.now c.requires.first c.requires.second c.requires.chain c.requires.start))
+returns-clause-shown_lead c with_cofactors = if_ok (IfCommon (ShowsLeadWhereReduced c.args.w.field c.args.v c.args.t.now c.args.c.now c.args.below.now)) (remainders_of c.args.w.field c.args.w.width c.args.v c.args.cofactors c.args.t.now c.args.c.now c.args.below.now) c.rows_of.result (returns-clause-value c) (subst (λ (b : Bool). IfCommon (ShowsLeadWhereReduced c.args.w.field c.args.v c.args.t.now c.args.c.now c.args.below.now) (remainders_of c.args.w.field c.args.w.width c.args.v b c.args.t.now c.args.c.now c.args.below.now)) (sym with_cofactors) (reduced_cofactor c.args.w.field c.args.w.width c.args.v c.prime.ensures.prime c.args.t.now c.args.c.now c.args.below.now c.requires.first c.requires.second c.requires.chain c.requires.start))
