@@ -1,0 +1,4 @@
+pub mod Posts
+pub mod Passes
+pub mod Rule
+pub mod Views

@@ -1,0 +1,12 @@
+//! Events of many threads on their way to one: lanes over one bounded queue.
+#![tactic(auto)]
+
+mod drain;
+mod hub;
+mod lane;
+mod making;
+mod rule;
+
+pub use drain::{Drain, Rest};
+pub use hub::Hub;
+pub use lane::{Full, Lane};
