@@ -1,5 +1,0 @@
-pub mod Ideals
-pub mod Divisors
-pub mod Chains
-pub mod Laws
-pub mod Coefficients
