@@ -5,7 +5,7 @@ use Rattle.polynomials.specs.Polynomials.{Polynomial, term}
 use Rattle.polynomials.specs.Views.{degree_in}
 use Rattle.polynomials.specs.Primes.{IsPrime}
 use Rattle.zero_sets.specs.Domains.{value_at}
-use Rattle.zero_sets.proofs.PrimeFields.{residue_tables}
+use Rattle.zero_sets.specs.Residues.{residues}
 use Rattle.division_rules.specs.Lists.{list_operations}
 use Rattle.division_rules.specs.Rows.{Row}
 use Rattle.division_rules.specs.Cofactors.{first_cofactor, AreCofactorSteps}
@@ -154,5 +154,5 @@ vanishing_reduces : reduction_of 5 2 (vanishing_chain ++ vanishing_t ∷ []) (fi
 vanishing_reduces = refl
 
 -- at x = 0 and y = 1, where x^2 and y^3 + 4 y^2 are zero, the lead x is
-vanishing_lead : Any (λ l. value_at (residue_tables 5) (0 ∷ 1 ∷ []) l ≡ 0) (leads_from_c 5 2 100 1 vanishing_t vanishing_c vanishing_chain)
+vanishing_lead : Any (λ l. value_at (residues 5) (0 ∷ 1 ∷ []) l ≡ 0) (leads_from_c 5 2 100 1 vanishing_t vanishing_c vanishing_chain)
 vanishing_lead = (0, term (1 ∷ 0 ∷ []) 1 ∷ [], omega arith, refl, refl)

@@ -44,7 +44,7 @@ module _ (p n w : ℕ) (prime : IsPrime p) (r : Tables) (domain : IsFiniteDomain
   tail_zero : (v : ℕ) (f : Polynomial) → IsPolynomial p n f → 1 ≤ degree_in v f → value_at r xs f ≡ r.nil → value_at r xs (lead_in v f) ≡ r.nil → value_at r xs (tail_in v f) ≡ r.nil
   tail_zero v f i high zero_f zero_lead =
       let lead_part = product_of p (lead_in v f) (variable_power n v (degree_in v f)) in
-      sym (sum_value_right p r domain xs point lead_part (tail_in v f) (product_zero_left p r domain xs point (lead_in v f) (variable_power n v (degree_in v f)) zero_lead)) ∙ ap (value_at r xs) ((lead_and_tail p n v f prime.many i).whole (variable_small (cases_lt v n))) ∙ zero_f
+      sym (sum_value_right p r domain.ring xs point lead_part (tail_in v f) (product_zero_left p r domain.ring xs point (lead_in v f) (variable_power n v (degree_in v f)) zero_lead)) ∙ ap (value_at r xs) ((lead_and_tail p n v f prime.many i).whole (variable_small (cases_lt v n))) ∙ zero_f
     where
       variable_small : (v < n) ⊎ (n ≤ v) → v < n
       variable_small (inl less) = less
@@ -126,7 +126,7 @@ module _ (p n w : ℕ) (prime : IsPrime p) (r : Tables) (domain : IsFiniteDomain
 
 -- the law of the cover
 pub children_cover_the_task : ChildrenCoverTheTask
-children_cover_the_task p n w task f rest r xs prime over triangular starts domain point inside =
+children_cover_the_task p n w task f rest r xs prime over triangular starts at inside =
     let queue_over = subst (ArePolynomials p n) starts over.1 in
     let queue_zero = subst (InZeroSet r xs) starts inside.1 in
-    children_have p n w prime r domain xs point task.chain rest task.nonzero over.0 over.2 triangular inside.0 queue_zero.1 inside.2 f queue_over.0 queue_zero.0
+    children_have p n w prime r at.domain xs at.point task.chain rest task.nonzero over.0 over.2 triangular inside.0 queue_zero.1 inside.2 f queue_over.0 queue_zero.0

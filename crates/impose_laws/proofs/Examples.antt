@@ -2,7 +2,7 @@
 use Rattle.std.proofs.Common.{◌≡◌, [], ◌∷◌, Some, inl, inr, refl, lit≤}
 use Rattle.polynomials.specs.Polynomials.{Polynomial, term}
 use Rattle.zero_sets.specs.Tasks.{Task, InTask}
-use Rattle.zero_sets.proofs.PrimeFields.{residue_tables}
+use Rattle.zero_sets.specs.Residues.{residues}
 use Rattle.impose_rules.specs.Impose.{impose_children}
 use Rattle.impose_laws.specs.TaskForms.{IsTaskOver, IsTaskFreeOf, InSomeTask}
 
@@ -34,12 +34,12 @@ children : impose_children 5 2 100 [] [] [] x_y ≡ Some (first ∷ second ∷ [
 children = refl
 
 -- at x = 0 and y = 3 the point is in the second child alone
-in_the_root : InTask (residue_tables 5) (0 ∷ 3 ∷ []) root
+in_the_root : InTask (residues 5) (0 ∷ 3 ∷ []) root
 in_the_root = ((tt, tt), (refl, tt), tt)
 
-in_a_child : InSomeTask (residue_tables 5) (0 ∷ 3 ∷ []) (first ∷ second ∷ [])
+in_a_child : InSomeTask (residues 5) (0 ∷ 3 ∷ []) (first ∷ second ∷ [])
 in_a_child = inr (inl ((tt, tt), (refl, (refl, tt)), tt))
 
-not_in_the_first : InSomeTask (residue_tables 5) (0 ∷ 3 ∷ []) (first ∷ []) → ⊥
+not_in_the_first : InSomeTask (residues 5) (0 ∷ 3 ∷ []) (first ∷ []) → ⊥
 not_in_the_first (inl h) = h.2.0 refl
 not_in_the_first (inr h) = h

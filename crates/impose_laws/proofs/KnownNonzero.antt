@@ -28,7 +28,7 @@ module _ (p n : ℕ) (prime : IsPrime p) where
     pub constant_nonzero : (f : Polynomial) → IsPolynomial p n f → is_constant f ≡ true → f ≢ [] → value_at r xs f ≢ r.nil
     constant_nonzero f i constant some =
         let parts = constant_from_free p n f (omega (arith, prime.many)) i ((is_constant_iff f).0 constant) in
-        subst (λ x. value_at r xs x ≢ r.nil) (sym parts.2) (value_at-constant_of p r domain xs point n parts.0 prime (positive parts.0 parts.2) parts.1)
+        subst (λ x. value_at r xs x ≢ r.nil) (sym parts.2) (value_at-constant_of p r domain.ring xs point n parts.0 prime (positive parts.0 parts.2) parts.1)
       where
         positive : (c : ℕ) → f ≡ constant_of n c → 0 < c
         positive zero e = absurd (some e)
@@ -38,12 +38,12 @@ module _ (p n : ℕ) (prime : IsPrime p) where
     pub known_nonzero : (ns : List Polynomial) (h : Polynomial) → IsPolynomial p n h → h ≢ [] → is_known_nonzero p ns h ≡ true → AreNonZero r xs ns → value_at r xs h ≢ r.nil
     known_nonzero ns h i some known nonzero = elim (or_cases (is_constant h) (is_member (monic p h) ns) known) [
       | inl constant ↦ constant_nonzero h i constant some
-      | inr member ↦ λ z. member_nonzero r xs (monic p h) ns member nonzero ((value_at-monic p r domain xs point n h prime i).1 z)
+      | inr member ↦ λ z. member_nonzero r xs (monic p h) ns member nonzero ((value_at-monic p r domain.ring xs point n h prime i).1 z)
     ]
 
     -- one more that is not zero
     pub with_nonzero_points : (ns : List Polynomial) (h : Polynomial) → IsPolynomial p n h → AreNonZero r xs ns → value_at r xs h ≢ r.nil → AreNonZero r xs (with_nonzero p ns h)
-    with_nonzero_points ns h i nonzero some = choose (AreNonZero r xs) (is_known_nonzero p ns h) ns (ns ++ monic p h ∷ []) (λ e. nonzero) (λ e. (AreNonZero-append r xs ns (monic p h ∷ [])).1 (nonzero, (λ z. some ((value_at-monic p r domain xs point n h prime i).0 z), tt)))
+    with_nonzero_points ns h i nonzero some = choose (AreNonZero r xs) (is_known_nonzero p ns h) ns (ns ++ monic p h ∷ []) (λ e. nonzero) (λ e. (AreNonZero-append r xs ns (monic p h ∷ [])).1 (nonzero, (λ z. some ((value_at-monic p r domain.ring xs point n h prime i).0 z), tt)))
 
     -- and several
     pub with_all_points : (ns hs : List Polynomial) → ArePolynomials p n hs → AreNonZero r xs ns → AreNonZero r xs hs → AreNonZero r xs (with_all_nonzero p ns hs)

@@ -30,7 +30,7 @@ module _ (p n w : ℕ) (prime : IsPrime p) (r : Tables) (domain : IsFiniteDomain
   case_has : (before : List Polynomial) (l : Polynomial) (later : List Polynomial) (j : ℕ) → ls ≡ before ++ l ∷ later → j ≡ suc (length before) → IsPolynomial p n l → value_at r xs l ≡ r.nil → AreNonZero r xs (with_all_nonzero p ns before) → InTask r xs (child_lead p n w chain rest ns f ls j)
   case_has before l later j e at i z nonzero =
       let found = place_of ls before l later j e at in
-      (in_chain, (subst (λ x. value_at r xs (monic p x) ≡ r.nil) (sym found.0) ((value_at-monic p r domain xs point n l prime i).1 z), (zero_f, in_rest)), subst (λ x. AreNonZero r xs (with_all_nonzero p ns x)) (sym found.1) nonzero)
+      (in_chain, (subst (λ x. value_at r xs (monic p x) ≡ r.nil) (sym found.0) ((value_at-monic p r domain.ring xs point n l prime i).1 z), (zero_f, in_rest)), subst (λ x. AreNonZero r xs (with_all_nonzero p ns x)) (sym found.1) nonzero)
 
   -- for the leads from a place on
   pub lead_case_or_none : (before later ms : List Polynomial) (j : ℕ) → ls ≡ before ++ later → j ≡ suc (length before) → ms ≡ with_all_nonzero p ns before → AreNonZero r xs ms → ArePolynomials p n later → AllByRecursion (λ l. l ≢ []) later → InSomeTask r xs (map (child_lead p n w chain rest ns f ls) (unknown_from p ms j later)) ⊎ AreNonZero r xs later

@@ -24,7 +24,7 @@ each_nonzero r xs (f ∷ fs) h = (h.0, each_nonzero r xs fs h.1)
 module _ (p n w : ℕ) (prime : IsPrime p) (r : Tables) (domain : IsFiniteDomain p r) (xs : List ℕ) (point : IsPoint r xs) (bs : List Polynomial) (are : ArePolynomials p n bs) where
   -- it is zero where f is
   pub stripped_zero : AreNonZero r xs bs → (f : Polynomial) → IsPolynomial p n f → value_at r xs f ≡ r.nil → value_at r xs (stripped p w bs f) ≡ r.nil
-  stripped_zero nonzero f i z = (value_at-monic p r domain xs point n (without_factors p w bs f) prime (IsPolynomial-without_factors p n w prime bs f are i)).1 (without_factors_relates p n w prime bs (λ x y. value_at r xs x ≡ r.nil → value_at r xs y ≡ r.nil) (λ x j h. h) step are f i z)
+  stripped_zero nonzero f i z = (value_at-monic p r domain.ring xs point n (without_factors p w bs f) prime (IsPolynomial-without_factors p n w prime bs f are i)).1 (without_factors_relates p n w prime bs (λ x y. value_at r xs x ≡ r.nil → value_at r xs y ≡ r.nil) (λ x j h. h) step are f i z)
     where
       step : (b x q y : Polynomial) → Contains bs b → is_constant b ≡ false → IsPolynomial p n b → IsPolynomial p n x → quotient_within p w x b ≡ Some q → (value_at r xs q ≡ r.nil → value_at r xs y ≡ r.nil) → value_at r xs x ≡ r.nil → value_at r xs y ≡ r.nil
       step b x q y member varies ib j e h zero_x = elim (product_zero p r domain xs point q b (ap (value_at r xs) (quotient_within_exact p w x b q e) ∙ zero_x)) [
@@ -37,9 +37,9 @@ module _ (p n w : ℕ) (prime : IsPrime p) (r : Tables) (domain : IsFiniteDomain
   stripped_lead v f i some nonzero = monic_lead (without_factors_relates p n w prime bs (λ x y. value_at r xs (lead_in v x) ≢ r.nil → value_at r xs (lead_in v y) ≢ r.nil) (λ x j h. h) step are f i nonzero)
     where
       step : (b x q y : Polynomial) → Contains bs b → is_constant b ≡ false → IsPolynomial p n b → IsPolynomial p n x → quotient_within p w x b ≡ Some q → (value_at r xs (lead_in v q) ≢ r.nil → value_at r xs (lead_in v y) ≢ r.nil) → value_at r xs (lead_in v x) ≢ r.nil → value_at r xs (lead_in v y) ≢ r.nil
-      step b x q y member varies ib j e h lead_x = h (λ zero_q. lead_x (ap (value_at r xs) (quotient_within_lead p n w x b q prime j ib e v) ∙ product_zero_left p r domain xs point (lead_in v q) (lead_in v b) zero_q))
+      step b x q y member varies ib j e h lead_x = h (λ zero_q. lead_x (ap (value_at r xs) (quotient_within_lead p n w x b q prime j ib e v) ∙ product_zero_left p r domain.ring xs point (lead_in v q) (lead_in v b) zero_q))
 
       monic_lead : value_at r xs (lead_in v (without_factors p w bs f)) ≢ r.nil → value_at r xs (lead_in v (stripped p w bs f)) ≢ r.nil
       monic_lead lead_f zero_lead =
           let factor = lead_in-monic p n prime v (without_factors p w bs f) (IsPolynomial-without_factors p n w prime bs f are i) (without_factors_nonzero p n w prime bs f are i some) in
-          lead_f (ap (value_at r xs) (sym factor.1) ∙ product_zero_right p r domain xs point factor.0 (lead_in v (stripped p w bs f)) zero_lead)
+          lead_f (ap (value_at r xs) (sym factor.1) ∙ product_zero_right p r domain.ring xs point factor.0 (lead_in v (stripped p w bs f)) zero_lead)

@@ -9,7 +9,8 @@ use Rattle.zero_sets.specs.Tasks.{Task, InTask, AreMonicApart}
 
 -- the polynomials of the task are canonical, in n variables modulo p
 abbrev pub IsTaskOver : ℕ → ℕ → Task → Type 0
-IsTaskOver p n t = ArePolynomials p n t.chain × ArePolynomials p n t.queue × ArePolynomials p n t.nonzero
+IsTaskOver p n t =
+    ArePolynomials p n t.chain × ArePolynomials p n t.queue × ArePolynomials p n t.nonzero
 
 -- v occurs in no polynomial of the task
 abbrev pub IsTaskFreeOf : ℕ → Task → Type 0

@@ -12,7 +12,10 @@ is_variable_above v (Some u) = ltb v u
 -- the polynomials whose main variable is greater than v
 abbrev pub members_above : ℕ → List Polynomial → List Polynomial
 members_above v [] = []
-members_above v (t ∷ chain) = elim (is_variable_above v (main_var t)) [ true ↦ t ∷ members_above v chain | false ↦ members_above v chain ]
+members_above v (t ∷ chain) = elim (is_variable_above v (main_var t)) [
+  | true ↦ t ∷ members_above v chain
+  | false ↦ members_above v chain
+]
 
 -- the chain with t at the main variable v, in place of the polynomial there if there is one
 abbrev pub with_member : ℕ → Polynomial → List Polynomial → List Polynomial

@@ -8,7 +8,8 @@ abbrev pub with_all_nonzero : ℕ → List Polynomial → List Polynomial → Li
 with_all_nonzero p ns [] = ns
 with_all_nonzero p ns (h ∷ hs) = with_all_nonzero p (with_nonzero p ns h) hs
 
--- the numbers, counted from j, of those of hs that aren't known nonzero under ns and those before them
+-- the numbers, counted from j, of those of hs that aren't known nonzero under ns and those before
+-- them
 abbrev pub unknown_from : ℕ → List Polynomial → ℕ → List Polynomial → List ℕ
 unknown_from p ns j [] = []
 unknown_from p ns j (h ∷ hs) =

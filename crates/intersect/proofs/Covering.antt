@@ -3,23 +3,23 @@ use Rattle.std.proofs.Common.{◌≡◌, ℕ, List, [], ◌∷◌, Option, Some,
 use Rattle.mono_words.specs.declared.mono.TheConstants.{VARS}
 use Rattle.polynomials.specs.Primes.{IsPrime}
 use Rattle.polynomials.specs.Polynomials.{Polynomial}
-use Rattle.zero_sets.specs.Domains.{Tables, IsFiniteDomain, IsPoint}
+use Rattle.zero_sets.specs.Domains.{Tables, IsPointOver}
 use Rattle.zero_sets.specs.ZeroSets.{IsTriangular}
 use Rattle.zero_sets.specs.Tasks.{Task, InTask}
-use Rattle.impose_rules.specs.Impose.{impose_children, impose_step, step_of}
+use Rattle.impose_rules.specs.Impose.{impose_children, impose_step, step_to_fitting}
 use Rattle.impose_laws.specs.TaskForms.{IsTaskOver, InSomeTask}
 use Rattle.impose_laws.proofs.Cover.{children_cover_the_task}
 use Rattle.split_paths.specs.declared.splitter.Step.{Step}
 use Rattle.intersect.specs.Covers.{CoversTask}
 
-step_covers : (p : ℕ) (task : Task) (kids : Option (List Task)) → ((r : Tables) (xs : List ℕ) → IsFiniteDomain p r → IsPoint r xs → InTask r xs task → IfSome kids (InSomeTask r xs)) → CoversTask p task (step_of kids)
+step_covers : (p : ℕ) (task : Task) (kids : Option (List Task)) → ((r : Tables) (xs : List ℕ) → IsPointOver p r xs → InTask r xs task → IfSome kids (InSomeTask r xs)) → CoversTask p task (step_to_fitting kids)
 step_covers p task None all = tt
 step_covers p task (Some []) all = all
 step_covers p task (Some (kid ∷ kids)) all = all
 
 -- imposing the first polynomial of the queue loses no point
 impose_covers : (p w : ℕ) (task : Task) (f : Polynomial) (rest : List Polynomial) → IsPrime p → IsTaskOver p VARS task → IsTriangular task.chain → task.queue ≡ f ∷ rest → CoversTask p task (impose_step p VARS w task.chain f rest task.nonzero)
-impose_covers p w task f rest prime over triangular starts = step_covers p task (impose_children p VARS w task.chain rest task.nonzero f) (λ r xs domain point inside. children_cover_the_task p VARS w task f rest r xs prime over triangular starts domain point inside)
+impose_covers p w task f rest prime over triangular starts = step_covers p task (impose_children p VARS w task.chain rest task.nonzero f) (λ r xs at inside. children_cover_the_task p VARS w task f rest r xs prime over triangular starts at inside)
 
 -- also where the task is given as its parts, and the step was made
 pub made_covers : (p w : ℕ) (parts task : Task) (f : Polynomial) (rest : List Polynomial) (made : Step Task (List Polynomial)) → IsPrime p → IsTaskOver p VARS task → parts ≡ task → IsTriangular parts.chain → parts.queue ≡ f ∷ rest → made ≡ impose_step p VARS w parts.chain f rest parts.nonzero → CoversTask p task made

@@ -52,7 +52,7 @@ module _ (p w v : ℕ) (r : Polynomial) (left : Task) where
     made = with_leads p v (plain t ∷ plain r ∷ later)
 
     -- in cases, of which those of the last row are given
-    by_cases : (common : Bool) (kids : List Task) → map (child_in p (head_of v r (leads_after later)) left) (member_cases p w made common) ≡ kids → here.children_by_rows p w v r left made common ≡ kids ++ map (child_lead p VARS w left.chain left.queue left.nonzero r (leads_after later)) (lead_cases p left.nonzero (leads_after later)) ++ child_initial p VARS w left.chain left.queue left.nonzero v r
+    by_cases : (common : Bool) (kids : List Task) → map (child_in p (head_of v r (leads_after later)) left) (member_cases p w made common) ≡ kids → here.children_after_rows p w v r left made common ≡ kids ++ map (child_lead p VARS w left.chain left.queue left.nonzero r (leads_after later)) (lead_cases p left.nonzero (leads_after later)) ++ child_initial p VARS w left.chain left.queue left.nonzero v r
     by_cases common kids first =
         let g = child_in p (head_of v r (leads_after later)) left in
         map-append g (member_cases p w made common ++ map Lead (lead_cases p left.nonzero (leads_after later))) (initial_cases p left.nonzero (leads_after later))

@@ -32,7 +32,10 @@ member_cases p w rows true = Member (stripped p w rows.leads (last_entry rows.ro
 
 -- the cases by remainder rows, which are common or not
 abbrev pub cases_of_rows : ℕ → ℕ → List Polynomial → RemainderRows → Bool → List Case
-cases_of_rows p w ns rows common = member_cases p w rows common ++ map Lead (lead_cases p ns rows.leads) ++ initial_cases p ns rows.leads
+cases_of_rows p w ns rows common =
+    member_cases p w rows common
+    ++ map Lead (lead_cases p ns rows.leads)
+    ++ initial_cases p ns rows.leads
 
 -- the cases of r by its initial alone, the one lead
 abbrev pub cases_of_head : ℕ → ℕ → List Polynomial → Polynomial → List Polynomial → List Case

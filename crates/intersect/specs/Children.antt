@@ -15,16 +15,28 @@ use Rattle.intersect.specs.Cases.{cases_of_rows}
 
 -- the initial vanishes
 abbrev pub child_with_initial : Head → Task → Task
-child_with_initial head left = record { chain = left.chain; queue = lead_in head.variable head.poly ∷ tail_in head.variable head.poly ∷ left.queue; nonzero = left.nonzero }
+child_with_initial head left = record {
+  chain = left.chain;
+  queue = lead_in head.variable head.poly ∷ tail_in head.variable head.poly ∷ left.queue;
+  nonzero = left.nonzero;
+}
 
 module _ (p : ℕ) (head : Head) (left : Task) where
   -- no lead vanishes, and t stands in the chain
   abbrev pub child_with_member : Polynomial → Task
-  child_with_member t = record { chain = with_polynomial t left.chain; queue = left.queue; nonzero = with_all_nonzero p left.nonzero head.leads }
+  child_with_member t = record {
+    chain = with_polynomial t left.chain;
+    queue = left.queue;
+    nonzero = with_all_nonzero p left.nonzero head.leads;
+  }
 
   -- lead number j vanishes, and none before it does
   abbrev pub child_with_lead : ℕ → Task
-  child_with_lead j = record { chain = left.chain; queue = monic p (get_or head.leads (j - 1) []) ∷ head.poly ∷ left.queue; nonzero = with_all_nonzero p left.nonzero (take (j - 1) head.leads) }
+  child_with_lead j = record {
+    chain = left.chain;
+    queue = monic p (get_or head.leads (j - 1) []) ∷ head.poly ∷ left.queue;
+    nonzero = with_all_nonzero p left.nonzero (take (j - 1) head.leads);
+  }
 
   -- the child in a case
   abbrev pub child_in : Case → Task
@@ -33,13 +45,15 @@ module _ (p : ℕ) (head : Head) (left : Task) where
   child_in Initial = child_with_initial head left
 
 -- the children by remainder rows that start with r, whose main variable is v
-abbrev pub children_by_rows : ℕ → ℕ → ℕ → Polynomial → Task → RemainderRows → Bool → List Task
-children_by_rows p w v r left rows common = map (child_in p (record { poly = r; variable = v; leads = rows.leads }) left) (cases_of_rows p w left.nonzero rows common)
+abbrev pub children_after_rows : ℕ → ℕ → ℕ → Polynomial → Task → RemainderRows → Bool → List Task
+children_after_rows p w v r left rows common =
+    map (child_in p (record { poly = r; variable = v; leads = rows.leads }) left)
+    (cases_of_rows p w left.nonzero rows common)
 
 -- the children by how the rows end
 abbrev pub children_by : ℕ → ℕ → ℕ → Polynomial → Task → Remainders → Option (List Task)
-children_by p w v r left (Coprime rows) = Some (children_by_rows p w v r left rows false)
-children_by p w v r left (Common rows z) = Some (children_by_rows p w v r left rows true)
+children_by p w v r left (Coprime rows) = Some (children_after_rows p w v r left rows false)
+children_by p w v r left (Common rows z) = Some (children_after_rows p w v r left rows true)
 children_by p w v r left TooWide = None
 
 -- the children by a constant: 0 imposes nothing, and another one leaves no points

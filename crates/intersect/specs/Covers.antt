@@ -1,15 +1,17 @@
 -- Steps that lose no point of a task.
 use Rattle.std.specs.Prelude.{ℕ, List, []}
 use Rattle.polynomials.specs.Polynomials.{Polynomial}
-use Rattle.zero_sets.specs.Domains.{Tables, IsFiniteDomain, IsPoint}
+use Rattle.zero_sets.specs.Domains.{Tables, IsPointOver}
 use Rattle.zero_sets.specs.Tasks.{Task, InTask}
 use Rattle.impose_laws.specs.TaskForms.{InSomeTask}
 use Rattle.split_paths.specs.declared.splitter.Step.{Step}
 use Rattle.split_paths.specs.declared.splitter.Step.TheVariants.{Gone, Emit, TooWide, Kids}
 
--- each point of the task, over each finite domain of the characteristic p, is one of some of the tasks
+-- each point of the task, over each finite domain of the characteristic p, is one of some of the
+-- tasks
 abbrev pub AreCovering : ℕ → Task → List Task → Type 0
-AreCovering p task kids = (r : Tables) (xs : List ℕ) → IsFiniteDomain p r → IsPoint r xs → InTask r xs task → InSomeTask r xs kids
+AreCovering p task kids =
+    (r : Tables) (xs : List ℕ) → IsPointOver p r xs → InTask r xs task → InSomeTask r xs kids
 
 -- the children cover the task, which has no points where it is gone; no leaf is emitted, and where a
 -- product doesn't fit nothing is said

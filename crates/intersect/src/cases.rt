@@ -26,7 +26,7 @@ pub enum Case {
     Initial,
 }
 
-pub type Cases = Items<Case>;
+pub type HeadCases = Items<Case>;
 
 /// The cases by the leads of remainder rows; where they are common the last row has one.
 pub fn cases_of_rows(
@@ -35,7 +35,7 @@ pub fn cases_of_rows(
     rows: &RemainderRows,
     is_common: bool,
     nonzero: &NonZero,
-) -> Result<Cases, AllocError>
+) -> Result<HeadCases, AllocError>
     requires rows { ArePolynomialRows w.now.field VARS rows.now.rows }
     requires over { ArePolynomials w.now.field VARS rows.now.leads }
     requires leads { HasNonzeroLeads rows.now }
@@ -57,7 +57,7 @@ pub fn cases_of_head(
     r: &Poly,
     leads: &Polys,
     nonzero: &NonZero,
-) -> Result<Cases, AllocError>
+) -> Result<HeadCases, AllocError>
     requires head { IsPolynomial w.now.field VARS r.now }
     requires over { ArePolynomials w.now.field VARS leads.now }
     requires leads { All (λ l. l ≢ []) leads.now }
@@ -65,7 +65,7 @@ pub fn cases_of_head(
     ensures { IfOk result (λ c. c
         ≡ cases_of_head w.now.field w.now.width nonzero.now r.now leads.now) }
 {
-    let mut cases = Cases::new(alloc);
+    let mut cases = HeadCases::new(alloc);
     let member = strip(alloc, *w, r, leads)?.monic(w.field)?;
     cases.push(Case::Member(member))?;
     push_initial(w.field, &mut cases, nonzero, leads)?;
@@ -78,13 +78,13 @@ fn member_cases(
     w: &Work,
     rows: &RemainderRows,
     is_common: bool,
-) -> Result<Cases, AllocError>
+) -> Result<HeadCases, AllocError>
     requires rows { ArePolynomialRows w.now.field VARS rows.now.rows }
     requires over { ArePolynomials w.now.field VARS rows.now.leads }
     requires leads { HasNonzeroLeads rows.now }
     ensures { IfOk result (λ r. r ≡ member_cases w.now.field w.now.width rows.now is_common) }
 {
-    let mut cases = Cases::new(alloc);
+    let mut cases = HeadCases::new(alloc);
     if is_common {
         cases.push(Case::Member(common(alloc, *w, rows)?))?;
     }
@@ -92,7 +92,7 @@ fn member_cases(
 }
 
 /// Adds the cases of leads.
-fn push_leads(cases: &mut Cases, places: &Places) -> Result<(), AllocError>
+fn push_leads(cases: &mut HeadCases, places: &Places) -> Result<(), AllocError>
     ensures { OnOk result (cases.new ≡ cases.old ++ map Lead places.now) }
 {
     for i in 0..places.count() {
@@ -104,7 +104,7 @@ fn push_leads(cases: &mut Cases, places: &Places) -> Result<(), AllocError>
 /// Adds the case of the initial, the first of the leads, unless it is known not to vanish.
 fn push_initial(
     f: Field,
-    cases: &mut Cases,
+    cases: &mut HeadCases,
     nonzero: &NonZero,
     leads: &Polys,
 ) -> Result<(), AllocError>

@@ -5,7 +5,7 @@ ghost use Rattle.intersect.specs.Cases.{AreCasesOf, IsCaseOf};
 ghost use Rattle.intersect.specs.Heads.{IsHeadOver};
 ghost use Rattle.intersect.specs.Children.{child_in, child_with_member, child_with_lead, child_with_initial};
 
-use crate::cases::{Case, Cases};
+use crate::cases::{Case, HeadCases};
 use crate::head::Head;
 use chains::{NonZero, Task};
 use mono_words::VARS;
@@ -19,7 +19,7 @@ pub fn children_in(
     alloc: Global,
     w: &Work,
     head: &Head,
-    cases: Cases,
+    cases: HeadCases,
     left: Task,
 ) -> Result<Tasks<Task>, AllocError>
     requires head { IsHeadOver w.now.field head.now }
@@ -42,7 +42,7 @@ fn children_of_copies(
     alloc: Global,
     w: &Work,
     head: &Head,
-    cases: Cases,
+    cases: HeadCases,
     left: &Task,
 ) -> Result<Tasks<Task>, AllocError>
     requires head { IsHeadOver w.now.field head.now }

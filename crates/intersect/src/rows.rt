@@ -8,7 +8,7 @@ ghost use Rattle.impose_laws.specs.TaskForms.{IsTaskOver};
 ghost use Rattle.row_laws.specs.Words.{IsReducedBy};
 ghost use Rattle.subresultants.specs.Shape.{EachRemainderRow, IfRows, HasNonzeroLeads};
 ghost use Rattle.intersect.specs.Heads.{HasLeads, HasLeadsOver};
-ghost use Rattle.intersect.specs.Children.{children_by_rows, children_by};
+ghost use Rattle.intersect.specs.Children.{children_after_rows, children_by};
 
 use crate::cases::{cases_of_head, cases_of_rows};
 use crate::children::children_in;
@@ -97,16 +97,16 @@ fn children_by(
     match remainders {
         Remainders::TooWide => Ok(None),
         Remainders::Coprime(rows) => {
-            Ok(Some(children_by_rows(alloc, w, v, r, rows, false, left)?))
+            Ok(Some(children_after_rows(alloc, w, v, r, rows, false, left)?))
         }
         Remainders::Common(rows, _zero) => {
-            Ok(Some(children_by_rows(alloc, w, v, r, rows, true, left)?))
+            Ok(Some(children_after_rows(alloc, w, v, r, rows, true, left)?))
         }
     }
 }
 
 /// The children by rows; where they are common the last row has one.
-fn children_by_rows(
+fn children_after_rows(
     alloc: Global,
     w: &Work,
     v: usize,
@@ -122,7 +122,7 @@ fn children_by_rows(
     requires some { HasLeads rows }
     requires over { HasLeadsOver w.now.field rows }
     ensures { IfOk result (λ kids. kids
-        ≡ children_by_rows w.now.field w.now.width v r left rows is_common) }
+        ≡ children_after_rows w.now.field w.now.width v r left rows is_common) }
 {
     let cases = cases_of_rows(alloc, w, &rows, is_common, &left.nonzero)?;
     let head = Head {

@@ -1,7 +1,7 @@
 ghost use Rattle.std.specs.Prelude.{◌≡◌, ◌≢◌, List, [], ◌∷◌, IfOk};
 ghost use Rattle.polynomials.specs.Polynomials.{Polynomial, IsPolynomial};
 ghost use Rattle.polynomials.specs.Views.{main_var};
-ghost use Rattle.impose_rules.specs.Impose.{children_of, impose_step, step_of};
+ghost use Rattle.impose_rules.specs.Impose.{children_by_head, impose_step, step_to_fitting};
 ghost use Rattle.impose_laws.specs.TaskForms.{IsTaskOver};
 ghost use Rattle.row_laws.specs.Words.{IsReducedBy};
 ghost use Rattle.intersect.specs.Children.{children_by_constant};
@@ -25,7 +25,8 @@ pub fn impose(alloc: Global, w: Work, task: Task) -> Result<Step<Task, Chain>, A
     requires over { IsTaskOver w.field VARS task }
     requires queue { task.queue ≢ [] }
     ensures step { IfOk result (λ made. (f : Polynomial) (rest : List Polynomial)
-        → task.queue ≡ f ∷ rest → made ≡ impose_step w.field VARS w.width task.chain f rest task.nonzero) }
+        → task.queue ≡ f ∷ rest
+        → made ≡ impose_step w.field VARS w.width task.chain f rest task.nonzero) }
     ensures cover { IfOk result (CoversTask w.field task) }
 {
     // Tells that the modulus is prime.
@@ -60,13 +61,13 @@ fn imposed(alloc: Global, w: &Work, f: &Poly, left: Task) -> Result<Step<Task, C
 {
     match reduced_head(alloc, w, f, &left)? {
         None => Ok(Step::TooWide),
-        Some(r) => Ok(step_of(children_of(alloc, w, r, left)?)),
+        Some(r) => Ok(step_to_fitting(children_by_head(alloc, w, r, left)?)),
     }
 }
 
 /// The step to these children.
-fn step_of(kids: Option<Tasks<Task>>) -> Step<Task, Chain>
-    ensures { result ≡ step_of kids }
+fn step_to_fitting(kids: Option<Tasks<Task>>) -> Step<Task, Chain>
+    ensures { result ≡ step_to_fitting kids }
 {
     match kids {
         None => Step::TooWide,
@@ -81,7 +82,7 @@ fn step_of(kids: Option<Tasks<Task>>) -> Step<Task, Chain>
 }
 
 /// The children where `r`, which is reduced by the chain, is imposed.
-fn children_of(
+fn children_by_head(
     alloc: Global,
     w: &Work,
     r: Poly,
@@ -90,7 +91,7 @@ fn children_of(
     requires head { IsPolynomial w.now.field VARS r }
     requires over { IsTaskOver w.now.field VARS left }
     requires reduced { IsReducedBy r left.chain }
-    ensures { IfOk result (λ kids. kids ≡ children_of w.now.field VARS w.now.width
+    ensures { IfOk result (λ kids. kids ≡ children_by_head w.now.field VARS w.now.width
         left.chain left.queue left.nonzero r (main_var r)) }
 {
     match r.main_var() {

@@ -4,7 +4,7 @@ use Rattle.std.proofs.lemmas.List.Elements.{All-nil, All-cons}
 use Rattle.std.proofs.lemmas.Option.{same_Some}
 use Rattle.polynomials.specs.Polynomials.{Polynomial, term, scaled}
 use Rattle.polynomials.specs.Views.{degree_in}
-use Rattle.zero_sets.proofs.PrimeFields.{residue_tables}
+use Rattle.zero_sets.specs.Residues.{residues}
 use Rattle.division_rules.specs.Rows.{Row, plain, first_entries}
 use Rattle.division_rules.proofs.Factors.{Contains-first}
 use Rattle.row_laws.specs.Words.{reduction_of, StartRemainderRows}
@@ -51,7 +51,7 @@ reduced_multiple : reduction_of 5 3 (hyperbola ∷ []) (scaled 5 3 square) ≡ s
 reduced_multiple = refl
 
 -- at a = 2 and b = 1 the value 1 of b^2 is multiplied by a^2
-multiplied : IsMultipleByInitials 5 3 (residue_tables 5) (2 ∷ 1 ∷ 0 ∷ []) (hyperbola ∷ []) 1 4
+multiplied : IsMultipleByInitials 5 3 (residues 5) (2 ∷ 1 ∷ 0 ∷ []) (hyperbola ∷ []) 1 4
 multiplied = (a ∷ a ∷ [], All-cons (Contains (a ∷ [])) a (a ∷ []) first (All-cons (Contains (a ∷ [])) a [] first (All-nil (Contains (a ∷ [])))), refl)
   where
     first : Contains (a ∷ []) a
@@ -90,5 +90,5 @@ member : IsMember 2 (hyperbola ∷ parabola ∷ []) parabola
 member = record { main = refl; more = []; parts = refl }
 
 -- at a = 1, b = 2 and x = 1 both are zero
-at_member : IsPointAtMember 2 (residue_tables 5) (1 ∷ 2 ∷ 1 ∷ []) (hyperbola ∷ parabola ∷ []) parabola
+at_member : IsPointAtMember 2 (residues 5) (1 ∷ 2 ∷ 1 ∷ []) (hyperbola ∷ parabola ∷ []) parabola
 at_member = record { below = ((refl, tt), ((λ e. cc), tt)); zero = refl; lead = λ e. cc }

@@ -19,16 +19,16 @@ module _ (p n : ℕ) (prime : IsPrime p) (r : Tables) (domain : IsFiniteDomain p
   P = polynomial_setting p n prime
 
   -- 1 is not 0 in it
-  pub one_not_nil : (table_ring p r domain).one ≢ (table_ring p r domain).nil
-  one_not_nil e = domain.one_not_nil (ap (λ u. u.0) e)
+  pub one_not_nil : (table_ring p r domain.ring).one ≢ (table_ring p r domain.ring).nil
+  one_not_nil e = domain.ring.one_not_nil (ap (λ u. u.0) e)
 
   -- values at the point
   abbrev pub table_evaluation : Evaluation (polynomial_setting p n prime) (Element r)
-  table_evaluation = polynomial_evaluation p n prime (table_ring p r domain) (has_characteristic p r domain) (coordinates p r domain xs point) (is_integral p r domain) one_not_nil
+  table_evaluation = polynomial_evaluation p n prime (table_ring p r domain.ring) (has_characteristic p r domain.ring) (coordinates p r domain.ring xs point) (is_integral p r domain) one_not_nil
 
   -- are those by the tables
   pub table_number : (f : CanonicalPolynomial p n) → (table_evaluation.val f).0 ≡ value_at r xs f.0
-  table_number f = value-table p r domain xs point f.0
+  table_number f = value-table p r domain.ring xs point f.0
 
   -- what is zero by the tables is zero, and the other way round
   pub table_zero : (f : CanonicalPolynomial p n) → value_at r xs f.0 ≡ r.nil → IsZero P table_evaluation f
@@ -49,4 +49,4 @@ module _ (p n : ℕ) (prime : IsPrime p) (r : Tables) (domain : IsFiniteDomain p
   -- its initials are not
   pub chain_initials : (chain : List (Row Polynomial)) (are : ArePolynomialRows p n chain) → AreNonZero r xs (map initial_of (first_entries chain)) → InitialsNotZero P table_evaluation (up_rows p n prime.many chain are)
   chain_initials [] are others = tt
-  chain_initials (t ∷ chain) are others = ((λ z. others.0 (ap (value_at r xs) (sym (list_initial p n t.first)) ∙ sym (value-table p r domain xs point _) ∙ ap (λ u. u.0) z)), chain_initials chain are.1 others.1)
+  chain_initials (t ∷ chain) are others = ((λ z. others.0 (ap (value_at r xs) (sym (list_initial p n t.first)) ∙ sym (value-table p r domain.ring xs point _) ∙ ap (λ u. u.0) z)), chain_initials chain are.1 others.1)

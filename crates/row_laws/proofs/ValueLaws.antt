@@ -47,7 +47,7 @@ module _ (p n : ℕ) (prime : IsPrime p) (r : Tables) (domain : IsFiniteDomain p
     l = E.val (lead (canonical_operations p n prime.many) v y.first)
 
     power : (e : ℕ) → (power_in E.values l e).0 ≡ power_at r (value_at r xs (lead_in v g.first)) e
-    power e = power-table p r domain l e ∙ ap (λ a. power_at r a e) (number (lead (canonical_operations p n prime.many) v y.first))
+    power e = power-table p r domain.ring l e ∙ ap (λ a. power_at r a e) (number (lead (canonical_operations p n prime.many) v y.first))
 
     scaled : (h : Row (CanonicalPolynomial p n)) (s : Row Polynomial) → down p n prime.many h ≡ s → (e : ℕ) → E.val h.first ≡ E.values.◌⊗◌ (power_in E.values l e) (E.val x.first) → value_at r xs s.first ≡ times_in r (power_at r (value_at r xs (lead_in v g.first)) e) (value_at r xs f.first)
     scaled h s same e is = first_number h s same ∙ ap (λ u. u.0) is ∙ ap₂ (times_in r) (power e) (number x.first)

@@ -1,5 +1,5 @@
 -- What the value of a result is, in every finite domain of the characteristic and at every point.
-use Rattle.std.specs.Prelude.{◌≡◌, ◌↔◌, ℕ, List, length, ◌<◌, get_or}
+use Rattle.std.specs.Prelude.{◌≡◌, ◌↔◌, ℕ, List, get_or}
 use Rattle.polynomials.specs.Polynomials.{Polynomial}
 use Rattle.polynomials.specs.Views.{degree_in}
 use Rattle.zero_sets.specs.Domains.{Tables, IsFiniteDomain, IsPoint, plus_in, times_in, power_at, value_at}
@@ -22,4 +22,4 @@ HasZerosOf p f h = (r : Tables) (xs : List ℕ) → IsFiniteDomain p r → IsPoi
 
 -- f has the value of its lead in v times the power of the coordinate, and of its tail
 abbrev pub SplitsValue : ℕ → ℕ → Polynomial → Polynomial → Polynomial → Type 0
-SplitsValue p v f lead tail = (r : Tables) (xs : List ℕ) → IsFiniteDomain p r → IsPoint r xs → v < length xs → value_at r xs f ≡ plus_in r (times_in r (value_at r xs lead) (power_at r (get_or xs v 0) (degree_in v f))) (value_at r xs tail)
+SplitsValue p v f lead tail = (r : Tables) (xs : List ℕ) → IsFiniteDomain p r → IsPoint r xs → value_at r xs f ≡ plus_in r (times_in r (value_at r xs lead) (power_at r (get_or xs v r.one) (degree_in v f))) (value_at r xs tail)

@@ -5,7 +5,7 @@ use Rattle.polynomials.specs.Rings.{Ring, value}
 use Rattle.polynomials.specs.Views.{main_var, initial_of}
 use Rattle.polynomials.proofs.RingLaws.{nil-plus, times-nil}
 use Rattle.polynomials.proofs.Values.{value-sum_of, value-product_of}
-use Rattle.zero_sets.specs.Domains.{Tables, IsFiniteDomain, IsPoint, value_at}
+use Rattle.zero_sets.specs.Domains.{Tables, IsFiniteRing, IsPoint, value_at}
 use Rattle.zero_sets.specs.ZeroSets.{InZeroSet, members_below, is_variable_below}
 use Rattle.zero_sets.specs.Certificates.{Certificate, CertifiesInitial}
 use Rattle.polynomials.specs.Sums.{combination}
@@ -21,20 +21,20 @@ InZeroSet-members_below r xs v (t ∷ chain) zeros = go (is_variable_below v (ma
     go true later = (zeros.0, later)
     go false later = later
 
-module _ (p : ℕ) (r : Tables) (domain : IsFiniteDomain p r) (xs : List ℕ) (point : IsPoint r xs) where
+module _ (p n : ℕ) (r : Tables) (finite : IsFiniteRing p r) (xs : List ℕ) (point : IsPoint r xs) where
   abbrev R : Ring (Element r)
-  R = table_ring p r domain
+  R = table_ring p r finite
 
   abbrev V : Polynomial → Element r
-  V f = value R (coordinates p r domain xs point) f
+  V f = value R (coordinates p r finite xs point) f
 
   value_of_sum : (f g : Polynomial) → V (sum_of p f g) ≡ R.◌⊕◌ (V f) (V g)
-  value_of_sum f g = value-sum_of R p (has_characteristic p r domain) (coordinates p r domain xs point) f g
+  value_of_sum f g = value-sum_of R p (has_characteristic p r finite) (coordinates p r finite xs point) f g
 
   -- a factor that is 0 makes the product 0
   product_of_zero : (f g : Polynomial) → V g ≡ R.nil → V (product_of p f g) ≡ R.nil
   product_of_zero f g e =
-      value-product_of R p (has_characteristic p r domain) (coordinates p r domain xs point) f g
+      value-product_of R p (has_characteristic p r finite) (coordinates p r finite xs point) f g
       ∙ (ap (λ u. R.◌⊗◌ (V f) u) e ∙ times-nil R (V f))
 
   -- a combination of generators that are 0 is 0
@@ -43,16 +43,16 @@ module _ (p : ℕ) (r : Tables) (domain : IsFiniteDomain p r) (xs : List ℕ) (p
   combination_of_zeros (c ∷ cs) [] zeros = refl
   combination_of_zeros (c ∷ cs) (g ∷ gs) zeros =
       value_of_sum (product_of p c g) (combination p cs gs)
-      ∙ (ap₂ R.◌⊕◌ (product_of_zero c g (zero_element p r domain xs point g zeros.0)) (combination_of_zeros cs gs zeros.1)
+      ∙ (ap₂ R.◌⊕◌ (product_of_zero c g (zero_element p r finite xs point g zeros.0)) (combination_of_zeros cs gs zeros.1)
       ∙ nil-plus R R.nil)
 
-  pub certified_value : (chain : List Polynomial) (c : Certificate) (t : Polynomial) → CertifiesInitial p chain c t → InZeroSet r xs chain → value_at r xs (initial_of t) ≡ r.nil → value_at r xs c.value ≡ r.nil
+  pub certified_value : (chain : List Polynomial) (c : Certificate) (t : Polynomial) → CertifiesInitial p n chain c t → InZeroSet r xs chain → value_at r xs (initial_of t) ≡ r.nil → value_at r xs c.value ≡ r.nil
   certified_value chain c t certifies zeros e =
       ap (value_at r xs) (sym certifies.identity)
-      ∙ zero_number p r domain xs point
+      ∙ zero_number p r finite xs point
       (sum_of p (product_of p c.cofactor (initial_of t)) (combination p c.below (members_below c.of chain)))
       (value_of_sum (product_of p c.cofactor (initial_of t)) (combination p c.below (members_below c.of chain))
       ∙ (ap₂ R.◌⊕◌
-      (product_of_zero c.cofactor (initial_of t) (zero_element p r domain xs point (initial_of t) e))
+      (product_of_zero c.cofactor (initial_of t) (zero_element p r finite xs point (initial_of t) e))
       (combination_of_zeros c.below (members_below c.of chain) (InZeroSet-members_below r xs c.of chain zeros))
       ∙ nil-plus R R.nil))

@@ -90,6 +90,7 @@ module _ (p : ℕ) (r : Tables) where
   -- tables that pass are those of a finite domain
   pub domain_from_tests : PassesTests → IsFiniteDomain p r
   domain_from_tests t = record {
+    ring = record {
     many = leb-true 2 r.size t.many;
     sum_count = eqb-true _ _ t.sum_count;
     product_count = eqb-true _ _ t.product_count;
@@ -107,5 +108,6 @@ module _ (p : ℕ) (r : Tables) where
     mul-add = λ x y z a b c. eqb-true _ _ (at_three _ t.mul-add x y z a b c);
     one_not_nil = λ e. eqb-false r.one r.nil t.one_not_nil e;
     characteristic = eqb-true _ _ t.characteristic;
+    };
     integral = λ x y a b e. factor_is_nil x y (at_two _ t.integral x y a b) e;
   }

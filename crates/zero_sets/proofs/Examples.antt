@@ -1,9 +1,11 @@
 -- The definitions, tried by computation in the fields of 4 and of 5 elements.
-use Rattle.std.proofs.Common.{◌≡◌, true, [], ◌∷◌, refl, lit≤}
-use Rattle.polynomials.specs.Polynomials.{Polynomial, term}
+use Rattle.std.proofs.Common.{◌≡◌, ℕ, true, [], ◌∷◌, refl, lit≤, arith}
+use Rattle.polynomials.specs.Polynomials.{Polynomial, term, sum_of, product_of}
+use Rattle.polynomials.specs.Sums.{combination}
+use Rattle.polynomials.specs.Views.{initial_of}
 use Rattle.zero_sets.specs.Domains.{Tables, IsFiniteDomain, value_at}
 use Rattle.zero_sets.specs.ZeroSets.{InZeroSet, InQuasiComponent, IsTriangular}
-use Rattle.zero_sets.specs.Certificates.{Certificate, CertifiesInitial, Certifies, irregular_variables}
+use Rattle.zero_sets.specs.Certificates.{Certificate, CertifiesInitial, Certifies, AreCertificates, variables_to_certify}
 use Rattle.zero_sets.proofs.DomainTests.{domain_from_tests}
 use Rattle.zero_sets.specs.Tasks.{InTask, is_known_nonzero, with_nonzero}
 
@@ -90,31 +92,46 @@ upper = term (0 ∷ 1 ∷ 1 ∷ []) 1 ∷ term (0 ∷ 0 ∷ 0 ∷ []) 4 ∷ []
 triangular : IsTriangular (lower ∷ upper ∷ [])
 triangular = (1, refl, lit≤ tt, (2, refl, lit≤ tt, tt))
 
-irregular : irregular_variables (lower ∷ upper ∷ []) ≡ 2 ∷ []
-irregular = refl
+to_certify : variables_to_certify (lower ∷ upper ∷ []) ≡ 2 ∷ []
+to_certify = refl
 
--- 4 x * x + 1 * (x^2 + 4 a) = 4 a
-abbrev certificate : Polynomial → Certificate
-certificate r = record {
+-- c x * x + 1 * (x^2 + 4 a) = 4 a, where c is 4 modulo 5
+abbrev certificate : ℕ → Polynomial → Certificate
+certificate c r = record {
   of = 2;
-  cofactor = term (0 ∷ 1 ∷ 0 ∷ []) 4 ∷ [];
+  cofactor = term (0 ∷ 1 ∷ 0 ∷ []) c ∷ [];
   below = (term (0 ∷ 0 ∷ 0 ∷ []) 1 ∷ []) ∷ [];
   value = r;
 }
 
-certified : CertifiesInitial 5 (lower ∷ upper ∷ []) (certificate (term (1 ∷ 0 ∷ 0 ∷ []) 4 ∷ [])) upper
+abbrev four_a : Polynomial
+four_a = term (1 ∷ 0 ∷ 0 ∷ []) 4 ∷ []
+
+certified : CertifiesInitial 5 3 (lower ∷ upper ∷ []) (certificate 4 four_a) upper
 certified = record {
   member = refl;
   initial = refl;
+  canonical = ((refl, lit≤ tt, lit≤ tt, tt, tt), ((refl, lit≤ tt, lit≤ tt, tt, tt), tt), (refl, lit≤ tt, lit≤ tt, tt, tt));
   count = refl;
   identity = refl;
   nonzero = λ e. cc;
   free = (refl, (refl, tt));
 }
 
+-- which is all that is to be certified
+certificates : AreCertificates 5 3 (lower ∷ upper ∷ []) (certificate 4 four_a ∷ [])
+certificates = record { variables = refl; certify = ((upper, certified), tt) }
+
 -- with the value a the identity fails
-not_certified : Certifies 5 (lower ∷ upper ∷ []) (certificate (term (1 ∷ 0 ∷ 0 ∷ []) 1 ∷ [])) → ⊥
+not_certified : Certifies 5 3 (lower ∷ upper ∷ []) (certificate 4 (term (1 ∷ 0 ∷ 0 ∷ []) 1 ∷ [])) → ⊥
 not_certified h = let m = h.1.member in let e = h.1.identity in let same : h.0 ≡ upper = cc in let f = rw same at e in cc
+
+-- with the cofactor 9 x it holds, but 9 is no coefficient modulo 5
+same_identity : sum_of 5 (product_of 5 (certificate 9 four_a).cofactor (initial_of upper)) (combination 5 (certificate 9 four_a).below (lower ∷ [])) ≡ four_a
+same_identity = refl
+
+not_canonical : Certifies 5 3 (lower ∷ upper ∷ []) (certificate 9 four_a) → ⊥
+not_canonical h = let (exponents, positive, below, sorted, later) = h.1.canonical.0 in omega arith
 
 -- 2 x is known nonzero where x is in the list, and x + 1 is not
 known : is_known_nonzero 5 (x ∷ []) (term (1 ∷ 0 ∷ []) 2 ∷ []) ≡ true

@@ -1,94 +1,71 @@
 -- The residues modulo a prime, by their tables, are a finite domain.
 use Rattle.std.proofs.Common.{◌≡◌, ◌⊎◌, ℕ, zero, suc, ◌+◌, ◌*◌, ◌%◌, ◌<◌, List, [], ◌∷◌, ◌++◌, map, length, get_or, length-append, refl, sym, ap, ap₂, ◌∙◌, subst, inl, inr, mod-lt, mod-eq_of_lt, zero-mul, arith}
-use Rattle.std.proofs.lemmas.List.{length-map, get_or_append_left, get_or-append-add}
+use Rattle.std.proofs.lemmas.List.{get_or_append_left, get_or-append-add}
+use Rattle.std.proofs.lemmas.List.FromFn.{length-map-range_with_len, get_or-map-range_with_len}
+use Rattle.std.specs.List.{range_with_len, flat_map}
 use Rattle.polynomials.specs.Primes.{IsPrime}
 use Rattle.polynomials.specs.Rings.{Ring, natural_in}
 use Rattle.polynomials.proofs.InverseLemmas.{prime_divides_a_factor}
-use Rattle.polynomials.proofs.Residues.{Residue, residues, residues_characteristic}
-use Rattle.zero_sets.specs.Domains.{Tables, IsFiniteDomain, plus_in, times_in, ones_in}
-
--- n numbers from k on
-abbrev pub numbers_from : ℕ → ℕ → List ℕ
-numbers_from k zero = []
-numbers_from k (suc n) = k ∷ numbers_from (suc k) n
+use Rattle.polynomials.proofs.Residues.{Residue, residues as residue_ring, residues_characteristic}
+use Rattle.zero_sets.specs.Domains.{Tables, IsFiniteRing, plus_in, times_in, ones_in}
+use Rattle.zero_sets.specs.Residues.{residues, ResiduesAreADomain}
 
 -- m rows from row k on, with n numbers each, of the table of an operation
-abbrev pub table_rows : (ℕ → ℕ → ℕ) → ℕ → ℕ → ℕ → List ℕ
-table_rows f n k zero = []
-table_rows f n k (suc m) = map (f k) (numbers_from 0 n) ++ table_rows f n (suc k) m
+abbrev rows_from : (ℕ → ℕ → ℕ) → ℕ → ℕ → ℕ → List ℕ
+rows_from f n k m = flat_map (λ x. map (f x) (range_with_len 0 n)) (range_with_len k m)
 
--- the residues modulo p with their tables
-abbrev pub residue_tables : ℕ → Tables
-residue_tables p = record { size = p; sums = table_rows (λ x y. (x + y) % p) p 0 p; products = table_rows (λ x y. x * y % p) p 0 p; nil = 0; one = 1 }
-
-length-numbers_from : (k n : ℕ) → length (numbers_from k n) ≡ n
-length-numbers_from k zero = refl
-length-numbers_from k (suc n) = ap suc (length-numbers_from (suc k) n)
-
--- an entry of a row
-get_or-row : (g : ℕ → ℕ) (k n y d : ℕ) → y < n → get_or (map g (numbers_from k n)) y d ≡ g (k + y)
-get_or-row g k zero y d below = absurd (omega arith)
-get_or-row g k (suc n) zero d below = ap g (omega arith)
-get_or-row g k (suc n) (suc y) d below = get_or-row g (suc k) n y d (omega arith) ∙ ap g (omega arith)
-
-length-row : (g : ℕ → ℕ) (n : ℕ) → length (map g (numbers_from 0 n)) ≡ n
-length-row g n = length-map (numbers_from 0 n) g ∙ length-numbers_from 0 n
-
-length-table_rows : (f : ℕ → ℕ → ℕ) (n k m : ℕ) → length (table_rows f n k m) ≡ m * n
-length-table_rows f n k zero = sym (zero-mul n)
-length-table_rows f n k (suc m) =
-    let row = length-row (f k) n in
-    let rest = length-table_rows f n (suc k) m in
-    let both = length-append (map (f k) (numbers_from 0 n)) (table_rows f n (suc k) m) in
+length-rows_from : (f : ℕ → ℕ → ℕ) (n k m : ℕ) → length (rows_from f n k m) ≡ m * n
+length-rows_from f n k zero = sym (zero-mul n)
+length-rows_from f n k (suc m) =
+    let row = length-map-range_with_len (f k) 0 n in
+    let rest = length-rows_from f n (k + 1) m in
+    let both = length-append (map (f k) (range_with_len 0 n)) (rows_from f n (k + 1) m) in
     omega arith
 
 -- an entry of a table
-get_or-table_rows : (f : ℕ → ℕ → ℕ) (n k m x y d : ℕ) → x < m → y < n → get_or (table_rows f n k m) (x * n + y) d ≡ f (k + x) y
-get_or-table_rows f n k zero x y d a b = absurd (omega arith)
-get_or-table_rows f n k (suc m) zero y d a b =
-    ap (λ i. get_or (table_rows f n k (suc m)) i d) (first_row n y)
-    ∙ get_or_append_left (map (f k) (numbers_from 0 n)) (table_rows f n (suc k) m) d y (omega (arith, length-row (f k) n))
-    ∙ get_or-row (f k) 0 n y d b
-    ∙ ap₂ f (plus_zero k) (zero_plus y)
+get_or-rows_from : (f : ℕ → ℕ → ℕ) (n k m x y d : ℕ) → x < m → y < n → get_or (rows_from f n k m) (x * n + y) d ≡ f (k + x) y
+get_or-rows_from f n k zero x y d a b = absurd (omega arith)
+get_or-rows_from f n k (suc m) zero y d a b =
+    ap (λ i. get_or (rows_from f n k (suc m)) i d) (first_row n y)
+    ∙ get_or_append_left (map (f k) (range_with_len 0 n)) (rows_from f n (k + 1) m) d y (omega (arith, length-map-range_with_len (f k) 0 n))
+    ∙ get_or-map-range_with_len (f k) 0 n y y d b (omega arith)
+    ∙ ap (λ z. f z y) (plus_zero k)
   where
     first_row : (n y : ℕ) → 0 * n + y ≡ y
     first_row n y = omega arith
 
     plus_zero : (k : ℕ) → k ≡ k + 0
     plus_zero k = omega arith
-
-    zero_plus : (y : ℕ) → 0 + y ≡ y
-    zero_plus y = omega arith
-get_or-table_rows f n k (suc m) (suc x) y d a b =
-    ap (λ i. get_or (table_rows f n k (suc m)) i d) (later_row n x y (length (map (f k) (numbers_from 0 n))) (length-row (f k) n))
-    ∙ get_or-append-add (map (f k) (numbers_from 0 n)) (table_rows f n (suc k) m) (x * n + y) d
-    ∙ get_or-table_rows f n (suc k) m x y d (omega arith) b
+get_or-rows_from f n k (suc m) (suc x) y d a b =
+    ap (λ i. get_or (rows_from f n k (suc m)) i d) (later_row n x y (length (map (f k) (range_with_len 0 n))) (length-map-range_with_len (f k) 0 n))
+    ∙ get_or-append-add (map (f k) (range_with_len 0 n)) (rows_from f n (k + 1) m) (x * n + y) d
+    ∙ get_or-rows_from f n (k + 1) m x y d (omega arith) b
     ∙ ap (λ z. f z y) (one_later k x)
   where
     later_row : (n x y l : ℕ) → l ≡ n → suc x * n + y ≡ l + (x * n + y)
     later_row n x y l e = omega arith
 
-    one_later : (k x : ℕ) → suc k + x ≡ k + suc x
+    one_later : (k x : ℕ) → k + 1 + x ≡ k + suc x
     one_later k x = omega arith
 
 module _ (p : ℕ) (prime : IsPrime p) where
   abbrev r : Tables
-  r = residue_tables p
+  r = residues p
 
   positive : 0 < p
   positive = omega (arith, prime.many)
 
   abbrev ring : Ring (Residue p)
-  ring = residues p positive
+  ring = residue_ring p positive
 
   sum_entry : (x y : ℕ) → x < p → y < p → plus_in r x y ≡ (x + y) % p
-  sum_entry x y a b = get_or-table_rows (λ x y. (x + y) % p) p 0 p x y 0 a b ∙ ap (λ z. (z + y) % p) (zero_plus x)
+  sum_entry x y a b = get_or-rows_from (λ x y. (x + y) % p) p 0 p x y 0 a b ∙ ap (λ z. (z + y) % p) (zero_plus x)
     where
       zero_plus : (x : ℕ) → 0 + x ≡ x
       zero_plus x = omega arith
 
   product_entry : (x y : ℕ) → x < p → y < p → times_in r x y ≡ x * y % p
-  product_entry x y a b = get_or-table_rows (λ x y. x * y % p) p 0 p x y 0 a b ∙ ap (λ z. z * y % p) (zero_plus x)
+  product_entry x y a b = get_or-rows_from (λ x y. x * y % p) p 0 p x y 0 a b ∙ ap (λ z. z * y % p) (zero_plus x)
     where
       zero_plus : (x : ℕ) → 0 + x ≡ x
       zero_plus x = omega arith
@@ -110,12 +87,11 @@ module _ (p : ℕ) (prime : IsPrime p) where
     | inr right ↦ inr (sym (mod-eq_of_lt b) ∙ right)
   ]
 
-  -- each prime field is a finite domain
-  pub prime_field_is_a_domain : IsFiniteDomain p (residue_tables p)
-  prime_field_is_a_domain = record {
+  finite_ring : IsFiniteRing p (residues p)
+  finite_ring = record {
     many = prime.many;
-    sum_count = length-table_rows (λ x y. (x + y) % p) p 0 p;
-    product_count = length-table_rows (λ x y. x * y % p) p 0 p;
+    sum_count = length-rows_from (λ x y. (x + y) % p) p 0 p;
+    product_count = length-rows_from (λ x y. x * y % p) p 0 p;
     nil_below = positive;
     one_below = prime.many;
     sum_below = λ x y a b. subst (λ z. z < p) (sym (sum_entry x y a b)) (mod-lt (x + y) positive);
@@ -130,5 +106,8 @@ module _ (p : ℕ) (prime : IsPrime p) where
     mul-add = λ x y z a b c. ap (times_in r x) (sums (y, b) (z, c)) ∙ products (x, a) (ring.◌⊕◌ (y, b) (z, c)) ∙ ap (λ u. u.0) (ring.mul-add (x, a) (y, b) (z, c)) ∙ sym (ap₂ (plus_in r) (products (x, a) (y, b)) (products (x, a) (z, c)) ∙ sums (ring.◌⊗◌ (x, a) (y, b)) (ring.◌⊗◌ (x, a) (z, c)));
     one_not_nil = λ e. cc;
     characteristic = ones p ∙ ap (λ u. u.0) (residues_characteristic p positive);
-    integral = factor;
   }
+
+-- each prime field is a finite domain
+pub residues_are_a_domain : ResiduesAreADomain
+residues_are_a_domain p prime = record { ring = finite_ring p prime; integral = factor p prime }

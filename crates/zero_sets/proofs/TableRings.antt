@@ -1,11 +1,12 @@
--- The elements of a finite domain form a ring, of its characteristic and without zero divisors.
+-- The elements of a finite ring form one, of its characteristic; those of a finite domain have no
+-- zero divisors.
 use Rattle.std.proofs.Common.{◌≡◌, ◌<◌, ℕ, zero, suc, List, [], ◌∷◌, refl, ap, ◌∙◌, inl, inr}
 use Rattle.std.proofs.Math.Bridge.{le_prop}
 use mathlib.Core.HLevel.{Σ_prop_path}
 use Rattle.polynomials.specs.Monomials.{Monomial}
 use Rattle.polynomials.specs.Polynomials.{Polynomial}
 use Rattle.polynomials.specs.Rings.{Ring, natural_in, HasCharacteristic, IsIntegral, power_in, monomial_value, value}
-use Rattle.zero_sets.specs.Domains.{Tables, IsFiniteDomain, IsPoint, plus_in, times_in, ones_in, power_at, monomial_at, value_at}
+use Rattle.zero_sets.specs.Domains.{Tables, IsFiniteRing, IsFiniteDomain, IsPoint, plus_in, times_in, ones_in, power_at, monomial_at, value_at}
 
 -- a number below the size
 abbrev pub Element : Tables → Type 0
@@ -15,21 +16,21 @@ Element r = (x : ℕ) × (x < r.size)
 pub element_path : (r : Tables) {x y : Element r} → x.0 ≡ y.0 → x ≡ y
 element_path r e = Σ_prop_path (λ n. le_prop) e
 
-module _ (p : ℕ) (r : Tables) (domain : IsFiniteDomain p r) where
+module _ (p : ℕ) (r : Tables) (finite : IsFiniteRing p r) where
   abbrev pub plus_of : Element r → Element r → Element r
-  plus_of x y = (plus_in r x.0 y.0, domain.sum_below x.0 y.0 x.1 y.1)
+  plus_of x y = (plus_in r x.0 y.0, finite.sum_below x.0 y.0 x.1 y.1)
 
   abbrev pub times_of : Element r → Element r → Element r
-  times_of x y = (times_in r x.0 y.0, domain.product_below x.0 y.0 x.1 y.1)
+  times_of x y = (times_in r x.0 y.0, finite.product_below x.0 y.0 x.1 y.1)
 
   abbrev pub nil_of : Element r
-  nil_of = (r.nil, domain.nil_below)
+  nil_of = (r.nil, finite.nil_below)
 
   abbrev pub one_of : Element r
-  one_of = (r.one, domain.one_below)
+  one_of = (r.one, finite.one_below)
 
   abbrev pub negative_element : Element r → Element r
-  negative_element x = ((domain.negative x.0 x.1).0, (domain.negative x.0 x.1).1)
+  negative_element x = ((finite.negative x.0 x.1).0, (finite.negative x.0 x.1).1)
 
   -- the ring of the elements
   abbrev pub table_ring : Ring (Element r)
@@ -39,14 +40,14 @@ module _ (p : ℕ) (r : Tables) (domain : IsFiniteDomain p r) where
     nil = nil_of;
     one = one_of;
     neg = negative_element;
-    add_comm = λ x y. element_path r (domain.add_comm x.0 y.0 x.1 y.1);
-    add_assoc = λ x y z. element_path r (domain.add_assoc x.0 y.0 z.0 x.1 y.1 z.1);
-    nil-add = λ x. element_path r (domain.nil-add x.0 x.1);
-    neg-add = λ x. element_path r ((domain.negative x.0 x.1).2);
-    mul_comm = λ x y. element_path r (domain.mul_comm x.0 y.0 x.1 y.1);
-    mul_assoc = λ x y z. element_path r (domain.mul_assoc x.0 y.0 z.0 x.1 y.1 z.1);
-    one-mul = λ x. element_path r (domain.one-mul x.0 x.1);
-    mul-add = λ x y z. element_path r (domain.mul-add x.0 y.0 z.0 x.1 y.1 z.1);
+    add_comm = λ x y. element_path r (finite.add_comm x.0 y.0 x.1 y.1);
+    add_assoc = λ x y z. element_path r (finite.add_assoc x.0 y.0 z.0 x.1 y.1 z.1);
+    nil-add = λ x. element_path r (finite.nil-add x.0 x.1);
+    neg-add = λ x. element_path r ((finite.negative x.0 x.1).2);
+    mul_comm = λ x y. element_path r (finite.mul_comm x.0 y.0 x.1 y.1);
+    mul_assoc = λ x y z. element_path r (finite.mul_assoc x.0 y.0 z.0 x.1 y.1 z.1);
+    one-mul = λ x. element_path r (finite.one-mul x.0 x.1);
+    mul-add = λ x y z. element_path r (finite.mul-add x.0 y.0 z.0 x.1 y.1 z.1);
   }
 
   -- sums of ones are those of the table
@@ -55,13 +56,7 @@ module _ (p : ℕ) (r : Tables) (domain : IsFiniteDomain p r) where
   natural-table (suc n) = ap (λ x. plus_in r r.one x) (natural-table n)
 
   pub has_characteristic : HasCharacteristic table_ring p
-  has_characteristic = element_path r (natural-table p ∙ domain.characteristic)
-
-  pub is_integral : IsIntegral table_ring
-  is_integral x y e = elim (domain.integral x.0 y.0 x.1 y.1 (ap (λ u. u.0) e)) [
-    | inl left ↦ inl (element_path r left)
-    | inr right ↦ inr (element_path r right)
-  ]
+  has_characteristic = element_path r (natural-table p ∙ finite.characteristic)
 
   -- the elements of a point
   abbrev pub coordinates : (xs : List ℕ) → IsPoint r xs → List (Element r)
@@ -86,3 +81,10 @@ module _ (p : ℕ) (r : Tables) (domain : IsFiniteDomain p r) where
       ap (λ y. plus_in r (times_in r y (monomial_value table_ring (coordinates xs point) t.0).0) (value table_ring (coordinates xs point) f).0) (natural-table t.1)
       ∙ (ap (λ y. plus_in r (times_in r (ones_in r t.1) y) (value table_ring (coordinates xs point) f).0) (monomial-table xs point t.0)
       ∙ ap (λ y. plus_in r (times_in r (ones_in r t.1) (monomial_at r xs t.0)) y) (value-table xs point f))
+
+-- the elements of a finite domain have no zero divisors
+pub is_integral : (p : ℕ) (r : Tables) (domain : IsFiniteDomain p r) → IsIntegral (table_ring p r domain.ring)
+is_integral p r domain x y e = elim (domain.integral x.0 y.0 x.1 y.1 (ap (λ u. u.0) e)) [
+  | inl left ↦ inl (element_path r left)
+  | inr right ↦ inr (element_path r right)
+]

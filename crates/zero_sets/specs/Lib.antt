@@ -1,4 +1,5 @@
 pub mod Domains
+pub mod Residues
 pub mod ZeroSets
 pub mod Certificates
 pub mod Tasks

@@ -1,4 +1,10 @@
+ghost use Rattle.zero_sets.specs.Residues.{ResiduesAreADomain};
 ghost use Rattle.zero_sets.specs.Laws.{ValueOfSum, ValueOfDifference, ValueOfProduct, ValueOfLeadAndTail, ConstantsAreNonZero, MonicKeepsZeros, CertificatesShowInitials};
+
+/// The residues modulo a prime, by their tables, are a finite domain.
+pub fn residues_are_a_domain()
+    ensures { ResiduesAreADomain }
+{}
 
 /// The value of a sum is the sum of the values.
 pub fn value_of_sum()

@@ -3,4 +3,4 @@ use Rattle.zero_sets.proofs.CertificateLemmas.{certified_value}
 use Rattle.zero_sets.proofs.laws.certificates_show_initials.Goals as goal
 
 pub returns : goal.returns
-returns c = λ p r xs chain a t domain point certifies zeros e. certified_value p r domain xs point chain a t certifies zeros e
+returns c = λ p n r xs chain a t finite point certifies zeros e. certified_value p n r finite xs point chain a t certifies zeros e

@@ -3,4 +3,4 @@ use Rattle.zero_sets.proofs.ValueLaws.{value_at-sum_of}
 use Rattle.zero_sets.proofs.laws.value_of_sum.Goals as goal
 
 pub returns : goal.returns
-returns c = λ p r xs f g domain point. value_at-sum_of p r domain xs point f g
+returns c = λ p r xs f g finite point. value_at-sum_of p r finite xs point f g
