@@ -3,3 +3,4 @@ pub mod Some
 pub mod Joined
 pub mod Cover
 pub mod Emitted
+pub mod Steps

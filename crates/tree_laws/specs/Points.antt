@@ -7,8 +7,8 @@ use Rattle.split_paths.specs.declared.splitter.Step.TheVariants.{Gone, Emit, Too
 abbrev pub SomeOf : {A : Type 0} → (A → Type 0) → List A → Type 0
 SomeOf {A} P xs = (x : A) × Contains xs x × P x
 
--- a point, where a task and a leaf have it: the step leaves it in a child or in the leaf; a step that
--- is too wide may lose it
+-- a point, where a task and a leaf have it: the step leaves it in a child or in the leaf; a step
+-- that is too wide may lose it
 abbrev pub IsKeptBy : {T L : Type 0} → (T → Type 0) → (L → Type 0) → Step T L → Type 0
 IsKeptBy in_task in_leaf Gone = ⊥
 IsKeptBy in_task in_leaf (Emit leaf) = in_leaf leaf
