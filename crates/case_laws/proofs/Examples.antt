@@ -1,16 +1,17 @@
 -- The words of the laws, tried on the system of x y modulo 5.
-use Rattle.std.proofs.Common.{◌≡◌, ℕ, zero, suc, ◌≤◌, [], ◌∷◌, None, refl, lit≤, arith}
+use Rattle.std.proofs.Common.{◌≡◌, ℕ, zero, suc, ◌≤◌, List, [], ◌∷◌, None, refl, lit≤, arith}
 use Rattle.polynomials.specs.Primes.{IsPrime}
 use Rattle.polynomials.specs.Polynomials.{Polynomial, term}
 use Rattle.polynomials.specs.Views.{degree_in}
 use Rattle.polynomials.proofs.ExponentsBelow.{degree_in-past}
 use Rattle.zero_sets.specs.Tasks.{InTask}
-use Rattle.zero_sets.specs.ZeroSets.{InQuasiComponent}
-use Rattle.zero_sets.proofs.PrimeFields.{residue_tables}
+use Rattle.zero_sets.specs.Systems.{PolynomialSystem}
+use Rattle.impose_rules.specs.Leaves.{leaf_of, InLeaf}
+use Rattle.zero_sets.specs.Residues.{residues}
 use Rattle.case_rules.specs.Cases.{root_task}
-use Rattle.case_laws.specs.Lawful.{IsLawfulPolynomial, IsLawfulChain, IsLawfulTask}
+use Rattle.case_laws.specs.Lawful.{IsLawfulPolynomial, IsLawfulSystem, IsLawfulLeaf, IsLawfulTask}
 use Rattle.case_laws.specs.Laws.{IsInZeroSet, answer_to}
-use Rattle.case_laws.proofs.AnswersOfSystems.{answers_are_sound}
+use Rattle.case_laws.proofs.AnswersOfSystems.{answers_are_lawful, answers_are_sound}
 
 abbrev x : Polynomial
 x = term (1 ∷ 0 ∷ []) 1 ∷ []
@@ -57,8 +58,18 @@ greatest_power = record {
 power_past : IsLawfulPolynomial 5 1 1 (power 65536) → ⊥
 power_past lawful = let high : 65536 ≤ 65535 = lawful.small 0 in omega arith
 
+-- the system of x y, where y - 3 must not vanish
+abbrev y_less_three : Polynomial
+y_less_three = term (0 ∷ 1 ∷ []) 1 ∷ term (0 ∷ 0 ∷ []) 2 ∷ []
+
+abbrev system : List Polynomial → PolynomialSystem
+system nonzero = record { prime = 5; inputs = x_y ∷ []; nonzero = nonzero }
+
+system_lawful : IsPrime 5 → IsLawfulSystem 2 2 (system [])
+system_lawful prime = record { prime = prime; inputs = (product_lawful, tt); nonzero = tt }
+
 -- the root is lawful
-root_lawful : IsLawfulTask 5 2 2 (root_task (x_y ∷ []))
+root_lawful : IsLawfulTask 5 2 2 (root_task 2 (system []))
 root_lawful = record {
   chain = record { lawful = tt; triangular = tt };
   queue = (product_lawful, tt);
@@ -66,22 +77,26 @@ root_lawful = record {
 }
 
 -- and has the point x = 0, y = 3
-root_has : InTask (residue_tables 5) (0 ∷ 3 ∷ []) (root_task (x_y ∷ []))
+root_has : InTask (residues 5) (0 ∷ 3 ∷ []) (root_task 2 (system []))
 root_has = ((tt, tt), (refl, tt), tt)
 
+-- but not where y - 3 must not vanish
+root_off : InTask (residues 5) (0 ∷ 3 ∷ []) (root_task 2 (system (y_less_three ∷ []))) → ⊥
+root_off inside = inside.2.0 refl
+
 -- which the second triangular set of the answer has, and the first hasn't
-second_has : InQuasiComponent (residue_tables 5) (0 ∷ 3 ∷ []) (x ∷ [])
+second_has : InLeaf (residues 5) (0 ∷ 3 ∷ []) (leaf_of (x ∷ []))
 second_has = ((refl, tt), ((λ none. cc), tt))
 
-first_has_not : InQuasiComponent (residue_tables 5) (0 ∷ 3 ∷ []) (y ∷ []) → ⊥
+first_has_not : InLeaf (residues 5) (0 ∷ 3 ∷ []) (leaf_of (y ∷ [])) → ⊥
 first_has_not inside = let zero_y = inside.0.0 in cc
 
-answer : answer_to 5 2 100000 10000 (x_y ∷ []) ≡ record { chains = ((1 ∷ []), (y ∷ [])) ∷ ((2 ∷ []), (x ∷ [])) ∷ []; stop = None }
+answer : answer_to 2 100000 10000 (system []) ≡ record { chains = ((1 ∷ []), (y ∷ [])) ∷ ((2 ∷ []), (x ∷ [])) ∷ []; stop = None }
 answer = refl
 
 -- the first is lawful, and its points are zeros of x y
-first_lawful : IsPrime 5 → IsLawfulChain 5 2 2 (y ∷ [])
-first_lawful prime = (answers_are_sound 5 2 2 100000 10000 (x_y ∷ []) prime (product_lawful, tt)).lawful ((1 ∷ []), (y ∷ [])) (0, omega arith, refl)
+first_lawful : IsPrime 5 → IsLawfulLeaf 5 2 2 (leaf_of (y ∷ []))
+first_lawful prime = answers_are_lawful 2 2 100000 10000 (system []) (system_lawful prime) ((1 ∷ []), (y ∷ [])) (0, omega arith, refl)
 
 first_sound : IsPrime 5 → IsInZeroSet 5 (x_y ∷ []) (y ∷ [])
-first_sound prime = (answers_are_sound 5 2 2 100000 10000 (x_y ∷ []) prime (product_lawful, tt)).sound ((1 ∷ []), (y ∷ [])) (0, omega arith, refl)
+first_sound prime = answers_are_sound 2 2 100000 10000 (system []) (system_lawful prime) ((1 ∷ []), (y ∷ [])) (0, omega arith, refl)

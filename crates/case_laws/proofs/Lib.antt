@@ -3,10 +3,11 @@ pub mod Parts
 pub mod Results
 pub mod Reductions
 pub mod FirstRemainders
-pub mod Roots
-pub mod EmittedChains
+pub mod EmittedLeaves
 pub mod StepsLoseNoZero
 pub mod Small
+pub mod LawfulNonzero
+pub mod Roots
 pub mod SmallRows
 pub mod SmallTasks
 pub mod StepsKeepLaw

@@ -14,7 +14,7 @@ use Rattle.division_rules.specs.Within.{reduction_within}
 use Rattle.division_rules.proofs.Steps.{choose}
 use Rattle.impose_rules.specs.Chains.{with_member}
 use Rattle.impose_rules.specs.Factors.{stripped}
-use Rattle.impose_rules.specs.Impose.{reduced_head, child_without, child_extended, child_initial, child_lead, child_common, children_by_rows, children_at, children_of, impose_children}
+use Rattle.impose_rules.specs.Impose.{reduced_head, child_without, child_extended, child_initial, child_lead, child_common, children_by_rows, children_at, children_by_head, impose_children}
 use Rattle.impose_rules.specs.Leads.{with_all_nonzero, lead_cases}
 use Rattle.impose_rules.proofs.ChainParts.{each_with_member}
 use Rattle.impose_rules.proofs.Lists.{each_appended}
@@ -53,7 +53,7 @@ module _ (p n w : ℕ) (chain rest ns : List Polynomial) (small_chain : AreSmall
 
   -- and the reduced head of the queue
   head_small : (f : Polynomial) → IsSmall f → IfSome (reduced_head p n w chain rest ns f) IsSmall
-  head_small f small = then_follows IsSmallRow IsSmall (reduction_within (list_operations p n) w (plains chain) (plain f)) (λ g. Some (stripped p w ns g.first)) (reduction_small p n w (plains chain) (plain f) small) (λ g small_g. stripped_small p w ns g.first small_g)
+  head_small f small = then_follows IsSmallRow IsSmall (reduction_within (list_operations p n) w (plains chain) (plain f)) (λ g. Some (stripped p w ns g.first)) (reduction_small p n w (plains chain) (plain f) (small, tt)) (λ g small_g. stripped_small p w ns g.first small_g.0)
 
   module _ (v : ℕ) (r : Polynomial) (small_r : IsSmall r) where
     -- child by child
@@ -74,19 +74,19 @@ module _ (p n w : ℕ) (chain rest ns : List Polynomial) (small_chain : AreSmall
     row_children_small : (rows : LaterRows Polynomial) → AreSmallRows rows → AreSmallTasks (children_by_rows p n w chain rest ns v r rows)
     row_children_small rows small =
         let ls = leads (list_operations p n) v (plain r ∷ rows.later) in
-        let small_ls = leads_small p n w v (plain r ∷ rows.later) (small_r, small) in
+        let small_ls = leads_small p n w v (plain r ∷ rows.later) ((small_r, tt), small.0) in
         let common = child_common p n w chain rest ns v ls (last_row (plain r) rows.later).first rows.last in
         let cases = map (child_lead p n w chain rest ns r ls) (lead_cases p ns ls) in
-        each_appended IsSmallTask (common ++ cases) (child_initial p n w chain rest ns v r) (each_appended IsSmallTask common cases (common_child_small ls (last_row (plain r) rows.later).first small_ls (last_small p n w (plain r) rows.later small_r small) rows.last) (lead_children_small ls small_ls (lead_cases p ns ls))) initial_child_small
+        each_appended IsSmallTask (common ++ cases) (child_initial p n w chain rest ns v r) (each_appended IsSmallTask common cases (common_child_small ls (last_row (plain r) rows.later).first small_ls (last_small p n w (plain r) rows.later (small_r, tt) small.0).0 rows.last) (lead_children_small ls small_ls (lead_cases p ns ls))) initial_child_small
 
     children_at_small : (o : Option Polynomial) → IfSome (children_at p n w chain rest ns v r o) AreSmallTasks
     children_at_small None = (extended_child_small, initial_child_small)
     children_at_small (Some t) = then_follows AreSmallRows AreSmallTasks (remainder_rows_within (list_operations p n) w v (plains (members_below v chain)) (plain t) (plain r)) (λ rows. Some (children_by_rows p n w chain rest ns v r rows)) (rows_small p n w v (plains (members_below v chain)) (plain t) (plain r)) row_children_small
 
-  children_of_small : (r : Polynomial) → IsSmall r → (o : Option ℕ) → IfSome (children_of p n w chain rest ns r o) AreSmallTasks
+  children_of_small : (r : Polynomial) → IsSmall r → (o : Option ℕ) → IfSome (children_by_head p n w chain rest ns r o) AreSmallTasks
   children_of_small r small None = choose (λ x. IfSome x AreSmallTasks) (is_zero r) (Some (child_without p n w chain rest ns ∷ [])) (Some []) (λ e. ((small_chain, small_rest, small_ns), tt)) (λ e. tt)
   children_of_small r small (Some v) = children_at_small v r small (member_in v chain)
 
   -- where the head of the queue is small too
   pub children_small : (f : Polynomial) → IsSmall f → IfSome (impose_children p n w chain rest ns f) AreSmallTasks
-  children_small f small = then_follows IsSmall AreSmallTasks (reduced_head p n w chain rest ns f) (λ r. children_of p n w chain rest ns r (main_var r)) (head_small f small) (λ r small_r. children_of_small r small_r (main_var r))
+  children_small f small = then_follows IsSmall AreSmallTasks (reduced_head p n w chain rest ns f) (λ r. children_by_head p n w chain rest ns r (main_var r)) (head_small f small) (λ r small_r. children_of_small r small_r (main_var r))

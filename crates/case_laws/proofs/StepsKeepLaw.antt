@@ -3,22 +3,26 @@ use Rattle.std.proofs.Common.{◌≡◌, ℕ, ◌≤◌, max, Bool, true, false,
 use Rattle.std.specs.List.{AllByRecursion}
 use Rattle.polynomials.specs.Primes.{IsPrime}
 use Rattle.polynomials.specs.Polynomials.{Polynomial}
+use Rattle.zero_sets.specs.Systems.{PolynomialSystem}
 use Rattle.zero_sets.specs.Tasks.{Task}
 use Rattle.division_rules.specs.Lists.{list_operations}
 use Rattle.division_rules.specs.Rows.{plain, plains}
 use Rattle.division_rules.specs.Within.{reduction_within}
 use Rattle.division_rules.proofs.CanonicalRows.{IsPolynomialRow-reduction}
 use Rattle.division_rules.proofs.Up.{plains_canonical}
+use Rattle.split_paths.specs.declared.splitter.Step.{Step}
+use Rattle.split_paths.specs.declared.splitter.Step.TheVariants.{Gone, Emit, TooWide, Kids}
 use Rattle.split_paths.specs.Lawful.{IsLawfulStep}
-use Rattle.impose_rules.specs.Impose.{impose_children, step_of}
+use Rattle.impose_rules.specs.Impose.{impose_children, impose_step, step_to_fitting}
+use Rattle.impose_rules.specs.Leaves.{Leaf}
 use Rattle.impose_rules.proofs.Lists.{each_implied}
 use Rattle.impose_laws.specs.TaskForms.{KeepsForm}
 use Rattle.impose_laws.proofs.FewChildren.{children_are_few}
 use Rattle.impose_laws.proofs.KeptForms.{children_keep_the_form}
 use Rattle.row_laws.proofs.DegreeLaws.{reductions_keep_degrees}
 use Rattle.case_rules.specs.Finish.{has_zero_remainder, first_remainder, step_by_remainder, step_by_nonzero}
-use Rattle.case_rules.specs.Cases.{step_by_queue}
-use Rattle.case_laws.specs.Lawful.{IsLawfulPolynomial, AreLawfulPolynomials, IsLawfulChain, IsLawfulTask}
+use Rattle.case_rules.specs.Cases.{step_by_queue, case_step}
+use Rattle.case_laws.specs.Lawful.{IsLawfulPolynomial, IsLawfulSystem, IsLawfulChain, IsLawfulLeaf, IsLawfulTask}
 use Rattle.case_laws.specs.Laws.{CaseStepsKeepLaw}
 use Rattle.case_laws.proofs.FirstRemainders.{IfRemainder, first_found}
 use Rattle.case_laws.proofs.Parts.{IsSmall, AreSmall, canonical_lawful, small_lawful, lawful_parts, task_over, task_free, free_lawful}
@@ -29,7 +33,7 @@ use Rattle.case_laws.proofs.SmallTasks.{AreSmallTasks, children_small}
 
 module _ (p n k w : ℕ) (prime : IsPrime p) where
   -- the remainder of a lawful polynomial by a lawful triangular set
-  remainder_lawful : (chain : List Polynomial) → IsLawfulChain p n k chain → (f : Polynomial) → IsLawfulPolynomial p n k f → IfRemainder p n w chain (IsLawfulPolynomial p n k) f
+  pub remainder_lawful : (chain : List Polynomial) → IsLawfulChain p n k chain → (f : Polynomial) → IsLawfulPolynomial p n k f → IfRemainder p n w chain (IsLawfulPolynomial p n k) f
   remainder_lawful chain lawful f of_f r made =
       let are = canonical_lawful p n k chain lawful.lawful in
       subst (IsLawfulPolynomial p n k) (sym (remainder_is p n w chain f r made)) (record {
@@ -38,36 +42,12 @@ module _ (p n k w : ℕ) (prime : IsPrime p) where
             let falls = reductions_keep_degrees p n v chain f prime are of_f.canonical lawful.triangular (free_lawful p n k v past chain lawful.lawful) in
             let none = of_f.named v past in
             omega arith;
-        small = subst IsSmall (remainder_is p n w chain f r made) (subst (λ o. IfSome o IsSmall) made (then_follows IsSmallRow IsSmall (reduction_within (list_operations p n) w (plains chain) (plain f)) (λ g. Some g.first) (reduction_small p n w (plains chain) (plain f) of_f.small) (λ g small. small)));
+        small = subst IsSmall (remainder_is p n w chain f r made) (subst (λ o. IfSome o IsSmall) made (then_follows IsSmallRow IsSmall (reduction_within (list_operations p n) w (plains chain) (plain f)) (λ g. Some g.first) (reduction_small p n w (plains chain) (plain f) (of_f.small, tt)) (λ g small. small.0)));
       })
 
-  module _ (inputs : List Polynomial) (lawful_inputs : AreLawfulPolynomials p n k inputs) (task : Task) (lawful : IsLawfulTask p n k task) where
-    abbrev IsLawful : Task → Type 0
-    IsLawful child = IsLawfulTask p n k child
-
-    remainders_lawful : (found : Option (Option Polynomial)) → first_remainder p n w task.chain inputs ≡ found → IsLawfulStep IsLawful (IsLawfulChain p n k) (step_by_remainder p n w task.chain task.nonzero found)
-    remainders_lawful None e = tt
-    remainders_lawful (Some None) e = lawful.chain
-    remainders_lawful (Some (Some r)) e = (
-      omega arith,
-      omega arith,
-      (
-        record {
-          chain = lawful.chain;
-          queue = (first_found p n w task.chain (IsLawfulPolynomial p n k) inputs (each_implied (IsLawfulPolynomial p n k) (IfRemainder p n w task.chain (IsLawfulPolynomial p n k)) (remainder_lawful task.chain lawful.chain) inputs lawful_inputs) r e, tt);
-          nonzero = lawful.nonzero;
-        },
-        tt,
-      ),
-    )
-
-    finish_lawful : (found : Option Bool) → IsLawfulStep IsLawful (IsLawfulChain p n k) (step_by_nonzero p n w task.chain inputs task.nonzero found)
-    finish_lawful None = tt
-    finish_lawful (Some true) = tt
-    finish_lawful (Some false) = remainders_lawful (first_remainder p n w task.chain inputs) refl
-
+  module _ (task : Task) (lawful : IsLawfulTask p n k task) where
     -- children that keep the form of the task and are small are lawful
-    kept_lawful : (children : List Task) → AllByRecursion (KeepsForm p n task) children → AreSmallTasks children → AllByRecursion IsLawful children
+    kept_lawful : (children : List Task) → AllByRecursion (KeepsForm p n task) children → AreSmallTasks children → AllByRecursion (IsLawfulTask p n k) children
     kept_lawful [] kept small = tt
     kept_lawful (child ∷ children) kept small = (
       record {
@@ -79,18 +59,58 @@ module _ (p n k w : ℕ) (prime : IsPrime p) where
     )
 
     -- and they are fewer than 2 ^ 32
-    few_lawful : (children : Option (List Task)) → IfSome children (AllByRecursion (KeepsForm p n task)) → IfSome children AreSmallTasks → IfSome children (λ kids. length kids ≤ max 2 65535) → IsLawfulStep IsLawful (IsLawfulChain p n k) (step_of children)
-    few_lawful None kept small few = tt
-    few_lawful (Some []) kept small few = tt
-    few_lawful (Some (kid ∷ kids)) kept small few = (omega arith, omega arith, kept_lawful (kid ∷ kids) kept small)
+    few_lawful : {L : Type 0} (lawful_leaf : L → Type 0) (children : Option (List Task)) → IfSome children (AllByRecursion (KeepsForm p n task)) → IfSome children AreSmallTasks → IfSome children (λ kids. length kids ≤ max 2 65535) → IsLawfulStep (IsLawfulTask p n k) lawful_leaf (step_to_fitting children)
+    few_lawful lawful_leaf None kept small few = tt
+    few_lawful lawful_leaf (Some []) kept small few = tt
+    few_lawful lawful_leaf (Some (kid ∷ kids)) kept small few = (omega arith, omega arith, kept_lawful (kid ∷ kids) kept small)
 
-    by_queue : (queue : List Polynomial) → task.queue ≡ queue → IsLawfulStep IsLawful (IsLawfulChain p n k) (step_by_queue p n w inputs task queue)
-    by_queue [] starts = finish_lawful (has_zero_remainder p n w task.chain task.nonzero)
-    by_queue (f ∷ rest) starts =
+    -- the step that imposes the first of the queue is lawful, whatever leaves the others emit
+    pub imposed_lawful : {L : Type 0} (lawful_leaf : L → Type 0) (f : Polynomial) (rest : List Polynomial) → task.queue ≡ f ∷ rest → IsLawfulStep (IsLawfulTask p n k) lawful_leaf (impose_step p n w task.chain f rest task.nonzero)
+    imposed_lawful lawful_leaf f rest starts =
         let small = subst AreSmall starts (small_lawful p n k task.queue lawful.queue) in
         let over = task_over p n k task lawful in
-        few_lawful (impose_children p n w task.chain rest task.nonzero f) (children_keep_the_form p n w task f rest prime over lawful.chain.triangular starts) (children_small p n w task.chain rest task.nonzero (small_lawful p n k task.chain lawful.chain.lawful) small.1 (small_lawful p n k task.nonzero lawful.nonzero) f small.0) (children_are_few p n w 65535 task f rest prime over lawful.chain.triangular starts (small_lawful p n k task.chain lawful.chain.lawful))
+        few_lawful lawful_leaf (impose_children p n w task.chain rest task.nonzero f) (children_keep_the_form p n w task f rest prime over lawful.chain.triangular starts) (children_small p n w task.chain rest task.nonzero (small_lawful p n k task.chain lawful.chain.lawful) small.1 (small_lawful p n k task.nonzero lawful.nonzero) f small.0) (children_are_few p n w 65535 task f rest prime over lawful.chain.triangular starts (small_lawful p n k task.chain lawful.chain.lawful))
 
 -- the law of steps
 pub case_steps_keep_law : CaseStepsKeepLaw
-case_steps_keep_law p n k w inputs prime lawful_inputs task lawful = by_queue p n k w prime inputs lawful_inputs task lawful task.queue refl
+case_steps_keep_law n k w system lawful task of_task = by_queue task.queue refl
+  where
+    remainders_lawful : (found : Option (Option Polynomial)) → first_remainder system.prime n w task.chain system.inputs ≡ found → IsLawfulStep (IsLawfulTask system.prime n k) (IsLawfulLeaf system.prime n k) (step_by_remainder system.prime n w task.chain task.nonzero found)
+    remainders_lawful None e = tt
+    remainders_lawful (Some None) e = of_task.chain
+    remainders_lawful (Some (Some r)) e = (
+      omega arith,
+      omega arith,
+      (
+        record {
+          chain = of_task.chain;
+          queue = (first_found system.prime n w task.chain (IsLawfulPolynomial system.prime n k) system.inputs (each_implied (IsLawfulPolynomial system.prime n k) (IfRemainder system.prime n w task.chain (IsLawfulPolynomial system.prime n k)) (remainder_lawful system.prime n k w lawful.prime task.chain of_task.chain) system.inputs lawful.inputs) r e, tt);
+          nonzero = of_task.nonzero;
+        },
+        tt,
+      ),
+    )
+
+    finish_lawful : (found : Option Bool) → IsLawfulStep (IsLawfulTask system.prime n k) (IsLawfulLeaf system.prime n k) (step_by_nonzero system.prime n w task.chain system.inputs task.nonzero found)
+    finish_lawful None = tt
+    finish_lawful (Some true) = tt
+    finish_lawful (Some false) = remainders_lawful (first_remainder system.prime n w task.chain system.inputs) refl
+
+    by_queue : (queue : List Polynomial) → task.queue ≡ queue → IsLawfulStep (IsLawfulTask system.prime n k) (IsLawfulLeaf system.prime n k) (step_by_queue n w system task queue)
+    by_queue [] starts = finish_lawful (has_zero_remainder system.prime n w task.chain task.nonzero)
+    by_queue (f ∷ rest) starts = imposed_lawful system.prime n k w lawful.prime task of_task (IsLawfulLeaf system.prime n k) f rest starts
+
+-- the same tasks, where each is said to be one of a lawful system
+with_system : (n k : ℕ) (system : PolynomialSystem) → IsLawfulSystem n k system → (kids : List Task) → AllByRecursion (IsLawfulTask system.prime n k) kids → AllByRecursion (λ kid. IsLawfulSystem n k system × IsLawfulTask system.prime n k kid) kids
+with_system n k system lawful [] each = tt
+with_system n k system lawful (kid ∷ kids) each = ((lawful, each.0), with_system n k system lawful kids each.1)
+
+step_of_system : (n k : ℕ) (system : PolynomialSystem) → IsLawfulSystem n k system → (made : Step Task Leaf) → IsLawfulStep (IsLawfulTask system.prime n k) (IsLawfulLeaf system.prime n k) made → IsLawfulStep (λ task. IsLawfulSystem n k system × IsLawfulTask system.prime n k task) (IsLawfulLeaf system.prime n k) made
+step_of_system n k system lawful Gone h = tt
+step_of_system n k system lawful (Emit leaf) h = h
+step_of_system n k system lawful TooWide h = tt
+step_of_system n k system lawful (Kids kids) h = (h.0, h.1, with_system n k system lawful kids h.2)
+
+-- so their steps are lawful
+pub system_steps_keep_law : (n k w : ℕ) (system : PolynomialSystem) (task : Task) → IsLawfulSystem n k system × IsLawfulTask system.prime n k task → IsLawfulStep (λ t. IsLawfulSystem n k system × IsLawfulTask system.prime n k t) (IsLawfulLeaf system.prime n k) (case_step n w system task)
+system_steps_keep_law n k w system task h = step_of_system n k system h.0 (case_step n w system task) (case_steps_keep_law n k w system h.0 task h.1)

@@ -3,10 +3,11 @@ use Rattle.std.proofs.Common.{◌≡◌, ℕ, Bool, true, false, List, [], ◌�
 use Rattle.std.specs.List.{AllByRecursion}
 use Rattle.polynomials.specs.Primes.{IsPrime}
 use Rattle.polynomials.specs.Polynomials.{Polynomial, ArePolynomials}
-use Rattle.zero_sets.specs.Domains.{Tables, IsFiniteDomain, IsPoint, value_at}
+use Rattle.zero_sets.specs.Domains.{Tables, IsPointOver, value_at}
 use Rattle.zero_sets.specs.ZeroSets.{InZeroSet, AreNonZero, InQuasiComponent}
 use Rattle.zero_sets.specs.Tasks.{Task, InTask}
-use Rattle.impose_rules.specs.Impose.{impose_children, step_of}
+use Rattle.impose_rules.specs.Impose.{impose_children, step_to_fitting}
+use Rattle.impose_rules.specs.Leaves.{Leaf, InLeaf}
 use Rattle.impose_laws.specs.TaskForms.{InSomeTask}
 use Rattle.impose_laws.proofs.Cover.{children_cover_the_task}
 use Rattle.row_laws.proofs.ReductionValues.{reductions_keep_zeros, reduced_to_zero_vanishes}
@@ -21,42 +22,45 @@ use Rattle.case_laws.proofs.FirstRemainders.{IfRemainder, first_found, zero_foun
 
 module _ (r : Tables) (xs : List ℕ) where
   -- a point of some task of a list
-  some_task : (tasks : List Task) → InSomeTask r xs tasks → SomeOf (InTask r xs) tasks
+  pub some_task : (tasks : List Task) → InSomeTask r xs tasks → SomeOf (InTask r xs) tasks
   some_task [] inside = absurd inside
   some_task (task ∷ tasks) (inl here) = some_first (InTask r xs) task tasks here
   some_task (task ∷ tasks) (inr later) = some_right (InTask r xs) (task ∷ []) tasks (some_task tasks later)
 
   -- is kept by the step that gives way to these tasks
-  imposed_keeps : (kids : Option (List Task)) → IfSome kids (InSomeTask r xs) → IsKeptBy (InTask r xs) (InQuasiComponent r xs) (step_of kids)
-  imposed_keeps None inside = tt
-  imposed_keeps (Some []) inside = inside
-  imposed_keeps (Some (kid ∷ kids)) inside = some_task (kid ∷ kids) inside
+  pub imposed_keeps : {L : Type 0} (in_leaf : L → Type 0) (kids : Option (List Task)) → IfSome kids (InSomeTask r xs) → IsKeptBy (InTask r xs) in_leaf (step_to_fitting kids)
+  imposed_keeps in_leaf None inside = tt
+  imposed_keeps in_leaf (Some []) inside = inside
+  imposed_keeps in_leaf (Some (kid ∷ kids)) inside = some_task (kid ∷ kids) inside
 
-module _ (p n w : ℕ) (prime : IsPrime p) (r : Tables) (domain : IsFiniteDomain p r) (xs : List ℕ) (point : IsPoint r xs) (inputs chain ns : List Polynomial) (are_inputs : ArePolynomials p n inputs) (are : ArePolynomials p n chain) (are_ns : ArePolynomials p n ns) (zeros : InZeroSet r xs inputs) (inside : InQuasiComponent r xs chain) (nonzero : AreNonZero r xs ns) where
+module _ (p n w : ℕ) (prime : IsPrime p) (r : Tables) (xs : List ℕ) (at : IsPointOver p r xs) (chain : List Polynomial) (are : ArePolynomials p n chain) (inside : InQuasiComponent r xs chain) where
   -- a remainder of an input is zero at the point
-  remainders_zero : (fs : List Polynomial) → ArePolynomials p n fs → InZeroSet r xs fs → AllByRecursion (IfRemainder p n w chain (λ g. value_at r xs g ≡ r.nil)) fs
+  pub remainders_zero : (fs : List Polynomial) → ArePolynomials p n fs → InZeroSet r xs fs → AllByRecursion (IfRemainder p n w chain (λ g. value_at r xs g ≡ r.nil)) fs
   remainders_zero [] are_fs zeros_fs = tt
-  remainders_zero (f ∷ fs) are_fs zeros_fs = ((λ g made. ap (value_at r xs) (remainder_is p n w chain f g made) ∙ reductions_keep_zeros p n r xs chain f prime domain point are are_fs.0 inside.0 zeros_fs.0), remainders_zero fs are_fs.1 zeros_fs.1)
+  remainders_zero (f ∷ fs) are_fs zeros_fs = ((λ g made. ap (value_at r xs) (remainder_is p n w chain f g made) ∙ reductions_keep_zeros p n r xs chain f prime at.domain at.point are are_fs.0 inside.0 zeros_fs.0), remainders_zero fs are_fs.1 zeros_fs.1)
 
   -- none of what isn't zero at the point reduces to 0
-  nonzero_remain : (fs : List Polynomial) → ArePolynomials p n fs → AreNonZero r xs fs → AllByRecursion (λ f. remainder_of p n w chain f ≡ Some [] → ⊥) fs
+  pub nonzero_remain : (fs : List Polynomial) → ArePolynomials p n fs → AreNonZero r xs fs → AllByRecursion (λ f. remainder_of p n w chain f ≡ Some [] → ⊥) fs
   nonzero_remain [] are_fs nonzero_fs = tt
-  nonzero_remain (f ∷ fs) are_fs nonzero_fs = ((λ made. nonzero_fs.0 (reduced_to_zero_vanishes p n r xs chain f prime domain point are are_fs.0 inside (sym (remainder_is p n w chain f [] made)))), nonzero_remain fs are_fs.1 nonzero_fs.1)
-
-  remainders_keep : (found : Option (Option Polynomial)) → first_remainder p n w chain inputs ≡ found → IsKeptBy (InTask r xs) (InQuasiComponent r xs) (step_by_remainder p n w chain ns found)
-  remainders_keep None e = tt
-  remainders_keep (Some None) e = inside
-  remainders_keep (Some (Some g)) e = some_first (InTask r xs) (record { chain = chain; queue = g ∷ []; nonzero = ns }) [] (inside, (first_found p n w chain (λ h. value_at r xs h ≡ r.nil) inputs (remainders_zero inputs are_inputs zeros) g e, tt), nonzero)
-
-  finish_keeps : (found : Option Bool) → has_zero_remainder p n w chain ns ≡ found → IsKeptBy (InTask r xs) (InQuasiComponent r xs) (step_by_nonzero p n w chain inputs ns found)
-  finish_keeps None e = tt
-  finish_keeps (Some true) e = zero_found p n w chain ⊥ ns (nonzero_remain ns are_ns nonzero) e
-  finish_keeps (Some false) e = remainders_keep (first_remainder p n w chain inputs) refl
+  nonzero_remain (f ∷ fs) are_fs nonzero_fs = ((λ made. nonzero_fs.0 (reduced_to_zero_vanishes p n r xs chain f prime at.domain at.point are are_fs.0 inside (sym (remainder_is p n w chain f [] made)))), nonzero_remain fs are_fs.1 nonzero_fs.1)
 
 -- the law of zeros
 pub case_steps_lose_no_zero : CaseStepsLoseNoZero
-case_steps_lose_no_zero p n k w inputs task r xs prime lawful_inputs lawful domain point zeros inside = by_queue task.queue refl
+case_steps_lose_no_zero n k w system task r xs lawful of_task at zeros inside = by_queue task.queue refl
   where
-    by_queue : (queue : List Polynomial) → task.queue ≡ queue → IsKeptBy (InTask r xs) (InQuasiComponent r xs) (step_by_queue p n w inputs task queue)
-    by_queue [] starts = finish_keeps p n w prime r domain xs point inputs task.chain task.nonzero (canonical_lawful p n k inputs lawful_inputs) (canonical_lawful p n k task.chain lawful.chain.lawful) (canonical_lawful p n k task.nonzero lawful.nonzero) zeros inside.0 inside.2 (has_zero_remainder p n w task.chain task.nonzero) refl
-    by_queue (f ∷ rest) starts = imposed_keeps r xs (impose_children p n w task.chain rest task.nonzero f) (children_cover_the_task p n w task f rest r xs prime (task_over p n k task lawful) lawful.chain.triangular starts domain point inside)
+    are : ArePolynomials system.prime n task.chain
+    are = canonical_lawful system.prime n k task.chain of_task.chain.lawful
+
+    remainders_keep : (found : Option (Option Polynomial)) → first_remainder system.prime n w task.chain system.inputs ≡ found → IsKeptBy (InTask r xs) (InLeaf r xs) (step_by_remainder system.prime n w task.chain task.nonzero found)
+    remainders_keep None e = tt
+    remainders_keep (Some None) e = inside.0
+    remainders_keep (Some (Some g)) e = some_first (InTask r xs) (record { chain = task.chain; queue = g ∷ []; nonzero = task.nonzero }) [] (inside.0, (first_found system.prime n w task.chain (λ h. value_at r xs h ≡ r.nil) system.inputs (remainders_zero system.prime n w lawful.prime r xs at task.chain are inside.0 system.inputs (canonical_lawful system.prime n k system.inputs lawful.inputs) zeros) g e, tt), inside.2)
+
+    finish_keeps : (found : Option Bool) → has_zero_remainder system.prime n w task.chain task.nonzero ≡ found → IsKeptBy (InTask r xs) (InLeaf r xs) (step_by_nonzero system.prime n w task.chain system.inputs task.nonzero found)
+    finish_keeps None e = tt
+    finish_keeps (Some true) e = zero_found system.prime n w task.chain ⊥ task.nonzero (nonzero_remain system.prime n w lawful.prime r xs at task.chain are inside.0 task.nonzero (canonical_lawful system.prime n k task.nonzero of_task.nonzero) inside.2) e
+    finish_keeps (Some false) e = remainders_keep (first_remainder system.prime n w task.chain system.inputs) refl
+
+    by_queue : (queue : List Polynomial) → task.queue ≡ queue → IsKeptBy (InTask r xs) (InLeaf r xs) (step_by_queue n w system task queue)
+    by_queue [] starts = finish_keeps (has_zero_remainder system.prime n w task.chain task.nonzero) refl
+    by_queue (f ∷ rest) starts = imposed_keeps r xs (InLeaf r xs) (impose_children system.prime n w task.chain rest task.nonzero f) (children_cover_the_task system.prime n w task f rest r xs lawful.prime (task_over system.prime n k task of_task) of_task.chain.triangular starts at inside)

@@ -1,8 +1,13 @@
-ghost use Rattle.case_laws.specs.Laws.{RootsStartWell, CaseStepsKeepLaw, CaseStepsLoseNoZero, EmittedChainsAreSound, AnswersAreSound, AnswersHaveCommonZeros};
+ghost use Rattle.case_laws.specs.Laws.{RootsStartWell, ZeroLeavesNothing, CaseStepsKeepLaw, CaseStepsLoseNoZero, EmittedLeavesAreSound, AnswersAreLawful, AnswersAreSound, AnswersHaveCommonZeros};
 
 /// The tree of a system starts with a lawful task that has all its solutions.
 pub fn roots_start_well()
     ensures { RootsStartWell }
+{}
+
+/// A system has no solution where 0 must not vanish, and its first step finds none.
+pub fn zero_leaves_nothing()
+    ensures { ZeroLeavesNothing }
 {}
 
 /// Steps make lawful tasks and triangular sets of lawful tasks, and no degree passes the limit.
@@ -15,12 +20,17 @@ pub fn case_steps_lose_no_zero()
     ensures { CaseStepsLoseNoZero }
 {}
 
-/// What a step emits has solutions of the system alone.
-pub fn emitted_chains_are_sound()
-    ensures { EmittedChainsAreSound }
+/// What a step emits has common zeros of the inputs alone.
+pub fn emitted_leaves_are_sound()
+    ensures { EmittedLeavesAreSound }
 {}
 
-/// An answer has solutions of the system alone, stopped or not.
+/// An answer is made of lawful triangular sets, stopped or not.
+pub fn answers_are_lawful()
+    ensures { AnswersAreLawful }
+{}
+
+/// An answer has common zeros of the inputs alone, stopped or not.
 pub fn answers_are_sound()
     ensures { AnswersAreSound }
 {}

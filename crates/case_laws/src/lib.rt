@@ -4,6 +4,6 @@
 mod laws;
 
 pub use laws::{
-    answers_are_sound, answers_have_common_zeros, case_steps_keep_law, case_steps_lose_no_zero,
-    emitted_chains_are_sound, roots_start_well,
+    answers_are_lawful, answers_are_sound, answers_have_common_zeros, case_steps_keep_law,
+    case_steps_lose_no_zero, emitted_leaves_are_sound, roots_start_well, zero_leaves_nothing,
 };

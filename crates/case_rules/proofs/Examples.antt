@@ -3,13 +3,18 @@
 use Rattle.std.proofs.Common.{◌≡◌, ℕ, List, [], ◌∷◌, Some, None, refl}
 use Rattle.polynomials.specs.Polynomials.{Term, term, Polynomial}
 use Rattle.split_paths.specs.declared.event.Event.{Event}
-use Rattle.split_paths.specs.declared.event.Event.TheVariants.{Split, Leaf}
+use Rattle.split_paths.specs.declared.event.Event.TheVariants.{Split}
+use Rattle.split_paths.specs.declared.event.Event.TheVariants as leaf
 use Rattle.split_paths.specs.declared.event.Outcome.TheVariants as outcome
 use Rattle.split_paths.specs.declared.event.Why.TheVariants as why
+use Rattle.split_paths.specs.declared.splitter.Step.{Step}
 use Rattle.split_paths.specs.declared.splitter.Step.TheVariants.{Gone, Emit, TooWide, Kids}
 use Rattle.split_paths.specs.Answer.{Answer, answer_of}
 use Rattle.split_paths.specs.Tree.{events_of}
-use Rattle.case_rules.specs.Cases.{case_step, root_place}
+use Rattle.zero_sets.specs.Systems.{PolynomialSystem}
+use Rattle.zero_sets.specs.Tasks.{Task}
+use Rattle.impose_rules.specs.Leaves.{Leaf}
+use Rattle.case_rules.specs.Cases.{case_step, root_task, root_place}
 use Rattle.case_rules.specs.Finish.{finish_step}
 
 -- c x^a, c x^a y^b, and c x^a y^b z^d
@@ -39,15 +44,22 @@ quadratic = xy 1 1 2 ∷ xy 1 0 1 ∷ xy 1 0 0 ∷ []
 abbrev two_squares : Polynomial
 two_squares = xy 1 0 2 ∷ xy 1 2 0 ∷ []
 
--- the tree in n variables, within a width, with so many steps for each branch
-abbrev tree : ℕ → ℕ → ℕ → List Polynomial → List (Event (List Polynomial))
-tree n w steps inputs = events_of (case_step 5 n w inputs) (root_place steps inputs)
+-- a system of inputs, and polynomials that must not vanish
+abbrev system : List Polynomial → List Polynomial → PolynomialSystem
+system inputs nonzero = record { prime = 5; inputs = inputs; nonzero = nonzero }
 
-abbrev answer : ℕ → ℕ → ℕ → List Polynomial → Answer (List Polynomial)
+-- the tree in n variables, within a width, with so many steps for each branch
+abbrev tree_off : List Polynomial → ℕ → ℕ → ℕ → List Polynomial → List (Event Leaf)
+tree_off nonzero n w steps inputs = events_of (case_step n w (system inputs nonzero)) (root_place n steps (system inputs nonzero))
+
+abbrev tree : ℕ → ℕ → ℕ → List Polynomial → List (Event Leaf)
+tree n w steps inputs = tree_off [] n w steps inputs
+
+abbrev answer : ℕ → ℕ → ℕ → List Polynomial → Answer Leaf
 answer n w steps inputs = answer_of (tree n w steps inputs)
 
 -- x y splits at its initial x
-tree_of_a_product : tree 2 100000 10000 (x_y ∷ []) ≡ Split [] 2 ∷ Leaf (1 ∷ []) (outcome.Chain (y ∷ [])) ∷ Leaf (2 ∷ []) (outcome.Chain (x ∷ [])) ∷ []
+tree_of_a_product : tree 2 100000 10000 (x_y ∷ []) ≡ Split [] 2 ∷ leaf.Leaf (1 ∷ []) (outcome.Chain (y ∷ [])) ∷ leaf.Leaf (2 ∷ []) (outcome.Chain (x ∷ [])) ∷ []
 tree_of_a_product = refl
 
 answer_to_a_product : answer 2 100000 10000 (x_y ∷ []) ≡ record { chains = ((1 ∷ []), (y ∷ [])) ∷ ((2 ∷ []), (x ∷ [])) ∷ []; stop = None }
@@ -58,7 +70,7 @@ answer_with_a_redundant_set : answer 2 100000 10000 ((xy 1 2 0 ∷ []) ∷ x_y �
 answer_with_a_redundant_set = refl
 
 -- 3 has no zeros
-tree_of_a_constant : tree 2 100000 10000 ((xy 3 0 0 ∷ []) ∷ []) ≡ Leaf [] outcome.Gone ∷ []
+tree_of_a_constant : tree 2 100000 10000 ((xy 3 0 0 ∷ []) ∷ []) ≡ leaf.Leaf [] outcome.Gone ∷ []
 tree_of_a_constant = refl
 
 answer_to_a_constant : answer 2 100000 10000 ((xy 3 0 0 ∷ []) ∷ []) ≡ record { chains = []; stop = None }
@@ -79,31 +91,61 @@ answer_stopped_by_size : answer 1 1 10000 ((x_term 1 2 ∷ x_term 4 0 ∷ []) �
 answer_stopped_by_size = refl
 
 -- x y - 1 and x^2 - x: where the initial x is zero nothing is left
-tree_with_a_branch_gone : tree 2 100000 10000 ((xy 1 1 1 ∷ xy 4 0 0 ∷ []) ∷ (xy 1 2 0 ∷ xy 4 1 0 ∷ []) ∷ []) ≡ Split [] 2 ∷ Leaf (1 ∷ []) (outcome.Chain ((xy 1 1 0 ∷ xy 4 0 0 ∷ []) ∷ (xy 1 1 1 ∷ xy 4 0 0 ∷ []) ∷ [])) ∷ Leaf (2 ∷ []) outcome.Gone ∷ []
+tree_with_a_branch_gone : tree 2 100000 10000 ((xy 1 1 1 ∷ xy 4 0 0 ∷ []) ∷ (xy 1 2 0 ∷ xy 4 1 0 ∷ []) ∷ []) ≡ Split [] 2 ∷ leaf.Leaf (1 ∷ []) (outcome.Chain ((xy 1 1 0 ∷ xy 4 0 0 ∷ []) ∷ (xy 1 1 1 ∷ xy 4 0 0 ∷ []) ∷ [])) ∷ leaf.Leaf (2 ∷ []) outcome.Gone ∷ []
 tree_with_a_branch_gone = refl
 
 -- x^2, y^3 - y^2 and (x y^2 + y - 1) z - 1: three branches below the second are gone
-tree_with_two_splits : tree 3 100000 10000 ((xyz 1 2 0 0 ∷ []) ∷ (xyz 1 0 3 0 ∷ xyz 4 0 2 0 ∷ []) ∷ (xyz 1 1 2 1 ∷ xyz 1 0 1 1 ∷ xyz 4 0 0 1 ∷ xyz 4 0 0 0 ∷ []) ∷ []) ≡ Split [] 2 ∷ Leaf (1 ∷ []) (outcome.Chain ((xyz 1 2 0 0 ∷ []) ∷ (xyz 1 0 3 0 ∷ xyz 4 0 2 0 ∷ []) ∷ (xyz 1 1 2 1 ∷ xyz 1 0 1 1 ∷ xyz 4 0 0 1 ∷ xyz 4 0 0 0 ∷ []) ∷ [])) ∷ Split (2 ∷ []) 3 ∷ Leaf (2 ∷ 1 ∷ []) outcome.Gone ∷ Leaf (2 ∷ 2 ∷ []) outcome.Gone ∷ Leaf (2 ∷ 3 ∷ []) outcome.Gone ∷ []
+tree_with_two_splits : tree 3 100000 10000 ((xyz 1 2 0 0 ∷ []) ∷ (xyz 1 0 3 0 ∷ xyz 4 0 2 0 ∷ []) ∷ (xyz 1 1 2 1 ∷ xyz 1 0 1 1 ∷ xyz 4 0 0 1 ∷ xyz 4 0 0 0 ∷ []) ∷ []) ≡ Split [] 2 ∷ leaf.Leaf (1 ∷ []) (outcome.Chain ((xyz 1 2 0 0 ∷ []) ∷ (xyz 1 0 3 0 ∷ xyz 4 0 2 0 ∷ []) ∷ (xyz 1 1 2 1 ∷ xyz 1 0 1 1 ∷ xyz 4 0 0 1 ∷ xyz 4 0 0 0 ∷ []) ∷ [])) ∷ Split (2 ∷ []) 3 ∷ leaf.Leaf (2 ∷ 1 ∷ []) outcome.Gone ∷ leaf.Leaf (2 ∷ 2 ∷ []) outcome.Gone ∷ leaf.Leaf (2 ∷ 3 ∷ []) outcome.Gone ∷ []
 tree_with_two_splits = refl
 
+-- x y where x must not vanish: one triangular set
+abbrev constant : ℕ → Polynomial
+constant c = xy c 0 0 ∷ []
+
+tree_off_x : tree_off (x ∷ []) 2 100000 10000 (x_y ∷ []) ≡ leaf.Leaf [] (outcome.Chain (y ∷ [])) ∷ []
+tree_off_x = refl
+
+-- that constants must not vanish says nothing
+tree_off_a_constant : tree_off (constant 3 ∷ []) 2 100000 10000 (x_y ∷ []) ≡ Split [] 2 ∷ leaf.Leaf (1 ∷ []) (outcome.Chain (y ∷ [])) ∷ leaf.Leaf (2 ∷ []) (outcome.Chain (x ∷ [])) ∷ []
+tree_off_a_constant = refl
+
+-- 2 x and x are one, and y is a second
+root_off_several : root_task 2 (system (x_y ∷ []) ((xy 2 1 0 ∷ []) ∷ x ∷ constant 4 ∷ y ∷ [])) ≡ record { chain = []; queue = x_y ∷ []; nonzero = x ∷ y ∷ [] }
+root_off_several = refl
+
+-- a branch where y + 1 vanishes is gone
+tree_off_a_branch : tree_off ((xy 1 0 1 ∷ xy 1 0 0 ∷ []) ∷ []) 2 100000 10000 (quadratic ∷ []) ≡ Split [] 2 ∷ leaf.Leaf (1 ∷ []) (outcome.Chain (quadratic ∷ [])) ∷ leaf.Leaf (2 ∷ []) outcome.Gone ∷ []
+tree_off_a_branch = refl
+
+-- that 0 must not vanish is the demand that 1 does
+root_off_zero : root_task 2 (system (x_y ∷ []) (x ∷ [] ∷ [])) ≡ record { chain = []; queue = constant 1 ∷ x_y ∷ []; nonzero = [] }
+root_off_zero = refl
+
+tree_off_zero : tree_off (x ∷ [] ∷ []) 2 100000 10000 (x_y ∷ []) ≡ leaf.Leaf [] outcome.Gone ∷ []
+tree_off_zero = refl
+
+-- the step of a task without a queue
+abbrev finish : ℕ → List Polynomial → List Polynomial → List Polynomial → Step Task Leaf
+finish w chain inputs ns = finish_step 2 w (system inputs []) (record { chain = chain; queue = []; nonzero = ns })
+
 -- x y reduces to 0 by y, while x doesn't
-emitted : finish_step 5 2 100 (y ∷ []) (x_y ∷ []) (x ∷ []) ≡ Emit (y ∷ [])
+emitted : finish 100 (y ∷ []) (x_y ∷ []) (x ∷ []) ≡ Emit (y ∷ [])
 emitted = refl
 
 -- x reduces to 0 by x; what comes after it isn't reduced, although that wouldn't fit
-gone_at_the_first : finish_step 5 2 1 (x ∷ []) (x_y ∷ []) (x ∷ two_squares ∷ []) ≡ Gone
+gone_at_the_first : finish 1 (x ∷ []) (x_y ∷ []) (x ∷ two_squares ∷ []) ≡ Gone
 gone_at_the_first = refl
 
-too_wide_before : finish_step 5 2 1 (x ∷ []) (x_y ∷ []) (two_squares ∷ x ∷ []) ≡ TooWide
+too_wide_before : finish 1 (x ∷ []) (x_y ∷ []) (two_squares ∷ x ∷ []) ≡ TooWide
 too_wide_before = refl
 
 -- the remainder y is imposed; what comes after it isn't reduced
-first_remainder_imposed : finish_step 5 2 1 (x ∷ []) (y ∷ two_squares ∷ []) [] ≡ Kids (record { chain = x ∷ []; queue = y ∷ []; nonzero = [] } ∷ [])
+first_remainder_imposed : finish 1 (x ∷ []) (y ∷ two_squares ∷ []) [] ≡ Kids (record { chain = x ∷ []; queue = y ∷ []; nonzero = [] } ∷ [])
 first_remainder_imposed = refl
 
-later_input_too_wide : finish_step 5 2 1 (x ∷ []) (x ∷ two_squares ∷ []) [] ≡ TooWide
+later_input_too_wide : finish 1 (x ∷ []) (x ∷ two_squares ∷ []) [] ≡ TooWide
 later_input_too_wide = refl
 
 -- y^2 is left of y^2 + x^2, and what doesn't vanish stays with it
-later_remainder_imposed : finish_step 5 2 2 (x ∷ []) (x ∷ two_squares ∷ y ∷ []) ((xy 1 0 1 ∷ xy 1 0 0 ∷ []) ∷ []) ≡ Kids (record { chain = x ∷ []; queue = (xy 1 0 2 ∷ []) ∷ []; nonzero = (xy 1 0 1 ∷ xy 1 0 0 ∷ []) ∷ [] } ∷ [])
+later_remainder_imposed : finish 2 (x ∷ []) (x ∷ two_squares ∷ y ∷ []) ((xy 1 0 1 ∷ xy 1 0 0 ∷ []) ∷ []) ≡ Kids (record { chain = x ∷ []; queue = (xy 1 0 2 ∷ []) ∷ []; nonzero = (xy 1 0 1 ∷ xy 1 0 0 ∷ []) ∷ [] } ∷ [])
 later_remainder_imposed = refl

@@ -1,3 +1,4 @@
 mod Remainders
 mod Inputs
+mod Roots
 mod TestTasks

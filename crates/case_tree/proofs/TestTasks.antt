@@ -12,7 +12,7 @@ use Rattle.impose_rules.proofs.Lists.{each_appended}
 use Rattle.impose_laws.proofs.MonicForms.{degree_in-monic}
 use Rattle.chains.specs.Members.{with_polynomial, with_member_at}
 use Rattle.case_laws.specs.Lawful.{IsLawfulPolynomial, AreLawfulPolynomials, IsLawfulChain}
-use Rattle.case_laws.proofs.Small.{monic_small}
+use Rattle.case_laws.proofs.LawfulNonzero.{with_nonzero_lawful}
 
 -- what holds of each holds of the item at a place
 pub each_at : {X : Type 0} (Q : X → Type 0) (xs : List X) (i : ℕ) (x : X) → AllByRecursion Q xs → slice_get xs i ≡ Some x → Q x
@@ -42,12 +42,5 @@ module _ (p n k : ℕ) where
   chain_copied chain inside copy lawful same copied = subst (IsLawfulChain p n k) (sym (copied ∙ same)) lawful
 
   -- one more that doesn't vanish
-  monic_lawful : IsPrime p → (h : Polynomial) → IsLawfulPolynomial p n k h → IsLawfulPolynomial p n k (monic p h)
-  monic_lawful prime h lawful = record {
-    canonical = IsPolynomial-monic p n h prime lawful.canonical;
-    named = λ v past. degree_in-monic p n prime v h lawful.canonical ∙ lawful.named v past;
-    small = monic_small p h lawful.small;
-  }
-
   pub one_more : IsPrime p → (q : ℕ) (ns start : List Polynomial) (h : Polynomial) (more : List Polynomial) → AreLawfulPolynomials p n k ns → IsLawfulPolynomial p n k h → q ≡ p → start ≡ ns → more ≡ with_nonzero q start h → AreLawfulPolynomials p n k more
-  one_more prime q ns start h more are lawful same_prime same is = subst (AreLawfulPolynomials p n k) (sym (is ∙ ap (λ x. with_nonzero x start h) same_prime ∙ ap (λ xs. with_nonzero p xs h) same)) (choose (AreLawfulPolynomials p n k) (is_known_nonzero p ns h) ns (ns ++ monic p h ∷ []) (λ e. are) (λ e. each_appended (IsLawfulPolynomial p n k) ns (monic p h ∷ []) are (monic_lawful prime h lawful, tt)))
+  one_more prime q ns start h more are lawful same_prime same is = subst (AreLawfulPolynomials p n k) (sym (is ∙ ap (λ x. with_nonzero x start h) same_prime ∙ ap (λ xs. with_nonzero p xs h) same)) (with_nonzero_lawful p n k prime ns h are lawful)

@@ -4,10 +4,12 @@ ghost use Rattle.polynomials.specs.Views.{degree_in};
 ghost use Rattle.system_text.specs.Laws.{IsSystem};
 ghost use Rattle.system_parser.specs.Systems.{text_system_of};
 ghost use Rattle.case_rules.specs.Cases.{root_task};
-ghost use Rattle.case_tree.specs.Systems.{IsTaskOf};
+ghost use Rattle.case_laws.specs.Laws.{HasSolutions};
+ghost use Rattle.case_tree.specs.Systems.{IsTaskOf, polynomial_system_of};
 
 use crate::finish::finish;
-use chains::{Chain, NonZero, Task};
+use crate::root::root_of;
+use chains::{Chain, Task};
 use intersect::impose;
 use mono_words::VARS;
 use sparse_poly::{Poly, Polys, System, Work};
@@ -45,6 +47,7 @@ impl Cases {
         // Tells that the modulus is prime.
         let _ = system.field.prime();
         tell_degrees(&system.inputs);
+        tell_degrees(&system.nonzero);
         Cases { system, width }
     }
 
@@ -55,20 +58,15 @@ impl Cases {
         &self.system
     }
 
-    /// The task with which the cases begin: all inputs are to be imposed.
+    /// The task with which the cases begin: all inputs are to be imposed, where no polynomial that
+    /// must not vanish does.
     pub fn root(&self, alloc: Global) -> Result<Task, AllocError>
-        ensures task { IfOk result (λ task. task ≡ root_task self.now.system.inputs) }
+        ensures task { IfOk result (λ task. task
+            ≡ root_task VARS (polynomial_system_of self.now.system)) }
         ensures lawful { IfOk result (IsTaskOf self.now) }
+        ensures solutions { IfOk result (HasSolutions (polynomial_system_of self.now.system)) }
     {
-        let mut queue = Polys::new(alloc);
-        for i in 0..self.system.inputs.count() {
-            queue.push(self.system.inputs.at(i).copy()?)?;
-        }
-        Ok(Task {
-            chain: Chain::empty(alloc),
-            queue,
-            nonzero: NonZero::empty(alloc),
-        })
+        root_of(alloc, &self.system)
     }
 
     /// The field and the width.
@@ -106,16 +104,19 @@ impl Splitter for Cases {
 
     type Leaf = Chain;
 
-    ghost use Rattle.case_tree.specs.Systems.{IsTaskOf, IsChainOf, step_of};
-    ghost use Rattle.case_tree.specs.Keeps.{steps_keep_law};
+    ghost use Rattle.std.specs.Prelude.{length};
+    ghost use Rattle.mono_words.specs.declared.mono.TheConstants.{VARS};
+    ghost use Rattle.case_laws.proofs.StepsKeepLaw.{system_steps_keep_law};
+    ghost use Rattle.case_tree.specs.Systems.{IsTaskOf, IsLeafOf, polynomial_system_of, step_of};
 
     ghost step = { step_of };
 
     ghost lawful_task = { IsTaskOf };
 
-    ghost lawful_leaf = { IsChainOf };
+    ghost lawful_leaf = { IsLeafOf };
 
-    ghost keeps_lawful = { steps_keep_law };
+    ghost keeps_lawful = { λ cases task lawful. system_steps_keep_law VARS
+        (length cases.system.names) cases.width (polynomial_system_of cases.system) task lawful };
 
     fn expand(&self, alloc: Global, task: Task) -> Result<Step<Task, Chain>, AllocError> {
         let w = self.work();

@@ -1,5 +1,5 @@
-ghost use Rattle.std.specs.Prelude.{◌≡◌, [], ◌∷◌, IfOk};
-ghost use Rattle.polynomials.specs.Polynomials.{ArePolynomials};
+ghost use Rattle.std.specs.Prelude.{◌≡◌, List, [], ◌∷◌, IfOk};
+ghost use Rattle.polynomials.specs.Polynomials.{Polynomial, ArePolynomials};
 ghost use Rattle.zero_sets.specs.ZeroSets.{IsTriangular};
 ghost use Rattle.impose_laws.specs.TaskForms.{IsTaskOver};
 ghost use Rattle.case_rules.specs.Finish.{has_zero_remainder, first_remainder, finish_step, step_by_remainder};
@@ -22,8 +22,8 @@ pub fn finish(
     requires over { IsTaskOver w.now.field VARS task }
     requires triangular { IsTriangular task.chain }
     requires queue { task.queue ≡ [] }
-    ensures { IfOk result (λ made.
-        made ≡ finish_step w.now.field VARS w.now.width task.chain inputs.now task.nonzero) }
+    ensures { IfOk result (λ made. (nonzero : List Polynomial) → made ≡ finish_step VARS w.now.width
+        (record { prime = w.now.field; inputs = inputs.now; nonzero = nonzero }) task) }
 {
     match has_zero_remainder(alloc, w, task.nonzero.polys(), task.chain.polys())? {
         None => Ok(Step::TooWide),
@@ -97,7 +97,8 @@ fn has_zero_remainder(
     requires list { ArePolynomials w.now.field VARS list.now }
     requires chain { ArePolynomials w.now.field VARS chain.now }
     requires triangular { IsTriangular chain.now }
-    ensures { IfOk result (λ r. r ≡ has_zero_remainder w.now.field VARS w.now.width chain.now list.now) }
+    ensures { IfOk result (λ r. r
+        ≡ has_zero_remainder w.now.field VARS w.now.width chain.now list.now) }
 {
     for i in 0..list.count() {
         match reduce(alloc, *w, list.at(i), chain)? {
@@ -122,7 +123,8 @@ fn first_remainder(
     requires inputs { ArePolynomials w.now.field VARS inputs.now }
     requires chain { ArePolynomials w.now.field VARS chain.now }
     requires triangular { IsTriangular chain.now }
-    ensures { IfOk result (λ r. r ≡ first_remainder w.now.field VARS w.now.width chain.now inputs.now) }
+    ensures { IfOk result (λ r. r
+        ≡ first_remainder w.now.field VARS w.now.width chain.now inputs.now) }
 {
     for i in 0..inputs.count() {
         match reduce(alloc, *w, inputs.at(i), chain)? {

@@ -4,6 +4,7 @@
 mod cases;
 mod finish;
 mod laws;
+mod root;
 
 pub use cases::Cases;
 pub use laws::{emits_common_zeros_alone, steps_lose_no_common_zero};

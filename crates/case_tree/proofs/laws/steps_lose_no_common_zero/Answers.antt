@@ -2,7 +2,8 @@
 use Rattle.std.proofs.Common.{length}
 use Rattle.mono_words.specs.declared.mono.TheConstants.{VARS}
 use Rattle.case_laws.proofs.StepsLoseNoZero.{case_steps_lose_no_zero}
+use Rattle.case_tree.specs.Systems.{polynomial_system_of}
 use Rattle.case_tree.proofs.laws.steps_lose_no_common_zero.Goals as goal
 
 pub returns : goal.returns
-returns c cases task r xs lawful domain point zeros inside = case_steps_lose_no_zero cases.system.prime VARS (length cases.system.names) cases.width cases.system.inputs task r xs lawful.0.prime lawful.0.inputs lawful.1 domain point zeros inside
+returns c cases task r xs lawful at zeros inside = case_steps_lose_no_zero VARS (length cases.system.names) cases.width (polynomial_system_of cases.system) task r xs lawful.0 lawful.1 at zeros inside

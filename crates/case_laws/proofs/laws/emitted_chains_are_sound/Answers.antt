@@ -1,6 +1,0 @@
--- All inputs reduce to 0 by what is emitted.
-use Rattle.case_laws.proofs.EmittedChains.{emitted_chains_are_sound}
-use Rattle.case_laws.proofs.laws.emitted_chains_are_sound.Goals as goal
-
-pub returns : goal.returns
-returns c = emitted_chains_are_sound
