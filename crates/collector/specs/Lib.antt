@@ -1,0 +1,4 @@
+pub mod Branches
+pub mod Notes
+pub mod Advances
+pub mod Moves
