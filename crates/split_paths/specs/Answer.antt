@@ -20,8 +20,8 @@ after_chain chain answer = record answer { chains = chain ∷ answer.chains }
 abbrev pub stopped_at : {L : Type 0} → List ℕ → Why → Answer L
 stopped_at path cause = record { chains = []; stop = Some (path, cause) }
 
--- the emitted leaves before the first leaf that is without a step or too wide, and that leaf if there
--- is one
+-- the emitted leaves before the first leaf that has no step left or is too wide, and that leaf if
+-- there is one
 abbrev pub answer_of : {L : Type 0} → List (Event L) → Answer L
 answer_of [] = record { chains = []; stop = None }
 answer_of (Split path kids ∷ events) = answer_of events
