@@ -11,8 +11,8 @@ use Rattle.zero_sets.specs.Systems.{PolynomialSystem}
 use Rattle.zero_sets.specs.Tasks.{Task}
 use Rattle.impose_rules.specs.Leaves.{Leaf, chain_of}
 
--- a canonical polynomial in n variables modulo p, of which only the k least occur, and whose degrees
--- are no greater than the greatest exponent
+-- a canonical polynomial in n variables modulo p, of which only the k least occur, and whose
+-- degrees are no greater than the greatest exponent
 pub record IsLawfulPolynomial (p n k : ℕ) (f : Polynomial) : Type 0 where
   pub canonical : IsPolynomial p n f
   pub named : (v : ℕ) → k ≤ v → IsFreeOf v f

@@ -20,7 +20,7 @@ CaseStepsKeepLaw =
     (n k w : ℕ) (system : PolynomialSystem)
     → IsLawfulSystem n k system
     → KeepsLaw (case_step n w system)
-      (IsLawfulTask system.prime n k) (IsLawfulLeaf system.prime n k)
+    (IsLawfulTask system.prime n k) (IsLawfulLeaf system.prime n k)
 
 -- in any finite domain of the characteristic, each solution of the system is a point of the task
 abbrev pub HasSolutions : PolynomialSystem → Task → Type 0
@@ -79,7 +79,8 @@ EmittedLeavesAreSound =
 
 -- the answer to a system, with so many steps for each branch
 abbrev pub answer_to : ℕ → ℕ → ℕ → PolynomialSystem → Answer Leaf
-answer_to n w steps system = answer_of (events_of (case_step n w system) (root_place n steps system))
+answer_to n w steps system =
+    answer_of (events_of (case_step n w system) (root_place n steps system))
 
 -- each leaf of the answer is lawful
 abbrev pub IsLawfulAnswer : ℕ → ℕ → PolynomialSystem → Answer Leaf → Type 0
@@ -91,15 +92,15 @@ abbrev pub IsSoundAnswer : PolynomialSystem → Answer Leaf → Type 0
 IsSoundAnswer system answer =
     (leaf : List ℕ × Leaf) → Contains answer.chains leaf → IsSoundLeaf system leaf.1
 
--- in every finite domain of the characteristic, of the points that make none of the polynomials zero
--- that must not vanish, those that make all inputs zero are those in a leaf of the answer
+-- in every finite domain of the characteristic, of the points that make none of the polynomials
+-- zero that must not vanish, those that make all inputs zero are those in a leaf of the answer
 abbrev pub IsCompleteAnswer : PolynomialSystem → Answer Leaf → Type 0
 IsCompleteAnswer system answer =
     (r : Tables) (xs : List ℕ)
     → IsPointOver system.prime r xs
     → AreNonZero r xs system.nonzero
     → InZeroSet r xs system.inputs
-      ↔ SomeOf (λ (leaf : List ℕ × Leaf). InLeaf r xs leaf.1) answer.chains
+    ↔ SomeOf (λ (leaf : List ℕ × Leaf). InLeaf r xs leaf.1) answer.chains
 
 -- the answer to a lawful system, stopped or not, has lawful leaves
 abbrev pub AnswersAreLawful : Type 0

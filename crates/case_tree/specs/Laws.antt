@@ -8,8 +8,8 @@ use Rattle.tree_laws.specs.Points.{IsKeptBy, IfEmitted}
 use Rattle.case_laws.specs.Laws.{IsSoundLeaf}
 use Rattle.case_tree.specs.Systems.{CaseSystem, IsTaskOf, polynomial_system_of, step_of}
 
--- in any finite domain of the characteristic, a common zero of the system's inputs that is a point of
--- a task of the system is one of a child, or of the leaf that is emitted
+-- in any finite domain of the characteristic, a common zero of the system's inputs that is a point
+-- of a task of the system is one of a child, or of the leaf that is emitted
 abbrev pub StepsLoseNoCommonZero : Type 0
 StepsLoseNoCommonZero =
     (cases : CaseSystem) (task : Task) (r : Tables) (xs : List ℕ)

@@ -20,7 +20,7 @@ use Rattle.impose_rules.proofs.ChainParts.{HasMainBelow, canonical_each}
 use Rattle.impose_laws.proofs.RowShapes.{rows, rows_canonical, rows_nonzero, rows_degrees, rows_without}
 
 -- what holds of the first and each later row holds of the last
-last_of : (Q : Row Polynomial → Type 0) (g : Row Polynomial) (later : List (Row Polynomial)) → Q g → EachRow Q later → Q (last_row g later)
+pub last_of : (Q : Row Polynomial → Type 0) (g : Row Polynomial) (later : List (Row Polynomial)) → Q g → EachRow Q later → Q (last_row g later)
 last_of Q g [] h each = h
 last_of Q g (f ∷ later) h each = last_of Q f later each.0 each.1
 

@@ -29,7 +29,7 @@ length-unknown_from p ns j (h ∷ hs) =
     choose (λ js. length js ≤ suc (length hs)) (is_known_nonzero p ns h) (unknown_from p (with_nonzero p ns h) (suc j) hs) (j ∷ unknown_from p (with_nonzero p ns h) (suc j) hs) (λ e. omega arith) (λ e. omega arith)
 
 -- each row has a lead
-length-leads : (p n v : ℕ) (later : List (Row Polynomial)) → length (leads (list_operations p n) v later) ≡ length later
+pub length-leads : (p n v : ℕ) (later : List (Row Polynomial)) → length (leads (list_operations p n) v later) ≡ length later
 length-leads p n v [] = refl
 length-leads p n v (f ∷ later) = ap suc (length-leads p n v later)
 
@@ -42,7 +42,7 @@ falling_count p n v g (f ∷ later) h =
     omega (arith, rest, less)
 
 -- and fewer where a zero row follows
-falling_count_zero : (p n v : ℕ) (g : Row Polynomial) (later : List (Row Polynomial)) (z : Row Polynomial) → DegreesFall (list_operations p n) v g later (Some z) → length later < degree_in v g.first
+pub falling_count_zero : (p n v : ℕ) (g : Row Polynomial) (later : List (Row Polynomial)) (z : Row Polynomial) → DegreesFall (list_operations p n) v g later (Some z) → length later < degree_in v g.first
 falling_count_zero p n v g [] z h = h.0
 falling_count_zero p n v g (f ∷ later) z h =
     let rest = falling_count_zero p n v f later z h.2 in

@@ -10,8 +10,8 @@ use Rattle.zero_sets.specs.Tasks.{Task, InTask}
 use Rattle.impose_rules.specs.Impose.{impose_children}
 use Rattle.impose_laws.specs.TaskForms.{IsTaskOver, KeepsForm, InSomeTask}
 
--- where all products fit, each point of the task, over each finite domain of the characteristic, is a
--- point of one of the children
+-- where all products fit, each point of the task, over each finite domain of the characteristic, is
+-- a point of one of the children
 abbrev pub ChildrenCoverTheTask : Type 0
 ChildrenCoverTheTask =
     (p n w : ℕ) (task : Task) (f : Polynomial) (rest : List Polynomial) (r : Tables) (xs : List ℕ)
@@ -32,7 +32,7 @@ ChildrenKeepTheForm =
     → IsTriangular task.chain
     → task.queue ≡ f ∷ rest
     → IfSome (impose_children p n w task.chain rest task.nonzero f)
-      (AllByRecursion (KeepsForm p n task))
+    (AllByRecursion (KeepsForm p n task))
 
 -- where no degree of the triangular set, in whatever variable, passes d, there are at most max 2 d
 -- children
@@ -45,4 +45,4 @@ ChildrenAreFew =
     → task.queue ≡ f ∷ rest
     → AllByRecursion (λ t. (v : ℕ) → degree_in v t ≤ d) task.chain
     → IfSome (impose_children p n w task.chain rest task.nonzero f)
-      (λ children. length children ≤ max 2 d)
+    (λ children. length children ≤ max 2 d)

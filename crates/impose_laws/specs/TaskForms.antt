@@ -21,8 +21,8 @@ abbrev pub AreMonic : ℕ → List Polynomial → Type 0
 AreMonic p fs = AllByRecursion (λ f. monic p f ≡ f) fs
 
 -- a child of a task keeps its form: canonical polynomials, a triangular set, that the polynomials
--- that don't vanish are different, monic and not constant, and that the triangular set is monic; and
--- no variable occurs in it that doesn't occur in the task
+-- that don't vanish are different, monic and not constant, and that the triangular set is monic;
+-- and no variable occurs in it that doesn't occur in the task
 pub record KeepsForm (p n : ℕ) (task child : Task) : Type 0 where
   pub over : IsTaskOver p n child
   pub triangular : IsTriangular child.chain

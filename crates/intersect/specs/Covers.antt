@@ -13,8 +13,8 @@ abbrev pub AreCovering : ℕ → Task → List Task → Type 0
 AreCovering p task kids =
     (r : Tables) (xs : List ℕ) → IsPointOver p r xs → InTask r xs task → InSomeTask r xs kids
 
--- the children cover the task, which has no points where it is gone; no leaf is emitted, and where a
--- product doesn't fit nothing is said
+-- the children cover the task, which has no points where it is gone; no leaf is emitted, and where
+-- a product doesn't fit nothing is said
 abbrev pub CoversTask : ℕ → Task → Step Task (List Polynomial) → Type 0
 CoversTask p task Gone = AreCovering p task []
 CoversTask p task (Emit leaf) = ⊥
