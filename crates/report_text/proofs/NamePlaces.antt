@@ -4,7 +4,7 @@ use Rattle.std.proofs.lemmas.Bool.{or_parts}
 use Rattle.std.proofs.lemmas.Bool.Decides.{same_from_decides}
 use Rattle.std.proofs.lemmas.Slice.Eq.{bytes_eq-Decides}
 use Rattle.std.specs.Str.{bytes_eq}
-use Rattle.system_text.specs.Lines.{is_text_of}
+use Rattle.system_text.specs.Heads.{is_text_of}
 use Rattle.system_text.specs.Sums.{place_of_name}
 use Rattle.system_text.specs.Systems.{AreDifferent}
 

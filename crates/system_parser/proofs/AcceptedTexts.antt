@@ -9,7 +9,7 @@ use Rattle.system_text.specs.Laws.{IsSystem}
 use Rattle.system_text.proofs.ReadTexts.{system_texts_are_read}
 use Rattle.system_text.proofs.ReadSystems.{what_is_read_is_a_system}
 use Rattle.system_parser.specs.declared.errors.ParseFault.{ParseFault}
-use Rattle.system_parser.specs.Answers.{Reads}
+use Rattle.system_parser.specs.Readings.{Reads}
 use Rattle.system_parser.specs.Systems.{text_system_of}
 
 -- what was read is the system of the text

@@ -5,7 +5,7 @@ use Rattle.std.specs.Option.{is_some}
 use Rattle.std.specs.Str.{bytes_eq}
 use Rattle.std.proofs.lemmas.Option.{same_Some}
 use Rattle.system_text.specs.Sums.{place_of_name}
-use Rattle.system_text.specs.Lines.{is_text_of}
+use Rattle.system_text.specs.Heads.{is_text_of}
 
 -- from the place i on, the item at i comes first
 pub drop_mapped : {A B : Type 0} (f : A → B) (xs : List A) (i : ℕ) (x : A) → slice_get xs i ≡ Some x → drop i (map f xs) ≡ f x ∷ drop (i + 1) (map f xs)

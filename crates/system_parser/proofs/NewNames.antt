@@ -6,7 +6,7 @@ use Rattle.std.proofs.lemmas.Bool.Decides.{leb_tells}
 use Rattle.system_text.specs.Characters.{is_letter, is_digit, is_name_character}
 use Rattle.system_text.specs.Tokens.{Placed, Name}
 use Rattle.system_text.specs.Faults.{Fault, fault}
-use Rattle.system_text.specs.Lines.{is_text_of, reserved_names, with_name}
+use Rattle.system_text.specs.Heads.{is_text_of, reserved_names, with_name}
 
 module _ (n : ℕ) (names : List (List ℕ)) (t : Placed) (x : List ℕ) where
   -- whether it is one of the names before it, where it isn't reserved and there is room

@@ -8,7 +8,7 @@ use Rattle.polynomials.specs.Primes.{field_primes}
 use Rattle.system_text.specs.Tokens.{Placed, Number}
 use Rattle.system_text.specs.Faults.{Fault, fault}
 use Rattle.system_text.specs.Limits.{most_digits}
-use Rattle.system_text.specs.Lines.{is_one_of, at_end, prime_number}
+use Rattle.system_text.specs.Heads.{is_one_of, at_end, prime_number}
 use Rattle.system_text.proofs.Lookups.{contains_from_test}
 use Rattle.system_parser.specs.Numbers.{number_read}
 

@@ -1,6 +1,6 @@
 pub mod Tokens
 pub mod Numbers
 pub mod Powers
-pub mod Answers
+pub mod Readings
 pub mod Sums
 pub mod Systems

@@ -17,7 +17,8 @@ names_of names = map (λ name. string_bytes name) names
 
 -- a system, with the bytes of its names
 abbrev pub text_system_of : System → TextSystem
-text_system_of s = record { prime = s.field; names = names_of s.names; inputs = s.inputs; nonzero = s.nonzero }
+text_system_of s =
+    record { prime = s.field; names = names_of s.names; inputs = s.inputs; nonzero = s.nonzero }
 
 -- what polynomials of a system are read over
 abbrev pub setting_over : System → Setting
@@ -29,11 +30,17 @@ progress_of AtPrime = TextProgress.AtPrime
 progress_of (AtOrder p) = TextProgress.AtOrder p
 progress_of (AtSums s) = TextProgress.AtSums (text_system_of s)
 
--- there are at most as many names as variables, and the polynomials that were read are canonical
+-- there are at most as many names as variables, and the polynomials are canonical
+pub record IsOverVariables (s : System) : Type 0 where
+  pub names : length s.names ≤ VARS
+  pub inputs : ArePolynomials s.field VARS s.inputs
+  pub nonzero : ArePolynomials s.field VARS s.nonzero
+
+-- the system that was read is over the variables
 abbrev pub IsProgress : Progress → Type 0
 IsProgress AtPrime = Unit {0}
 IsProgress (AtOrder p) = Unit {0}
-IsProgress (AtSums s) = (length s.names ≤ VARS) × ArePolynomials s.field VARS s.inputs
+IsProgress (AtSums s) = IsOverVariables s
 
 -- the lines that are left, where some are
 abbrev pub lines_left : Option (List ℕ) → List (List ℕ)
@@ -45,7 +52,7 @@ abbrev pub after_first : List ℕ → Option (List ℕ)
 after_first [] = None
 after_first (b ∷ bs) = Some bs
 
--- what was taken stood in front
+-- what was taken stood in front, or there was nothing, and nothing is left
 abbrev pub TakesLine : Option (List ℕ) → List (List ℕ) → List (List ℕ) → Type 0
-TakesLine None before after = before ≡ []
+TakesLine None before after = (before ≡ []) × (after ≡ [])
 TakesLine (Some line) before after = before ≡ line ∷ after

@@ -38,7 +38,9 @@ token_at i t = record { token = t; first = i; last = i + token_length t - 1 }
 -- wherever they stand, the bytes begin with this token, and go on after it
 abbrev pub BeginWith : List ℕ → TextToken → Type 0
 BeginWith bytes t =
-    (i : ℕ) → tokens_from i None bytes ≡ token_at i t ∷ tokens_from (i + token_length t) None (drop (token_length t) bytes)
+    (i : ℕ)
+    → tokens_from i None bytes
+    ≡ token_at i t ∷ tokens_from (i + token_length t) None (drop (token_length t) bytes)
 
 -- a name's bytes may stand in names, and a number's are digits
 abbrev pub IsSpelled : TextToken → Type 0
@@ -46,7 +48,7 @@ IsSpelled (TextToken.Name bytes) = AllByRecursion (λ b. is_name_character b ≡
 IsSpelled (TextToken.Number bytes) = AllDigits 10 bytes
 IsSpelled _ = Unit {0}
 
--- what was taken stood in front
+-- what was taken stood in front, or there was nothing, and nothing is left
 abbrev pub TakesToken : Option Placed → List TextPlaced → List TextPlaced → Type 0
-TakesToken None before after = before ≡ []
+TakesToken None before after = (before ≡ []) × (after ≡ [])
 TakesToken (Some t) before after = before ≡ placed_of t ∷ after

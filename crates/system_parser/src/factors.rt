@@ -5,7 +5,7 @@ ghost use Rattle.polynomials.specs.Fits.{power_within};
 ghost use Rattle.system_text.specs.Limits.{text_width};
 ghost use Rattle.system_text.specs.Sums.{times_within, variable_at, number_base, at_factor, after_factor_at, raised, exponent_at, at_exponent, place_of_name};
 ghost use Rattle.system_parser.specs.Tokens.{token_of, placed_of, IsSpelled};
-ghost use Rattle.system_parser.specs.Answers.{Gives};
+ghost use Rattle.system_parser.specs.Readings.{Gives};
 ghost use Rattle.system_parser.specs.Sums.{frame_of, frames_of, reading_of, IsReading};
 ghost use Rattle.system_parser.specs.Systems.{setting_over};
 

@@ -2,7 +2,7 @@ ghost use Rattle.std.specs.Prelude.{◌≡◌};
 ghost use Rattle.system_text.specs.Faults.{misplaced};
 ghost use Rattle.system_parser.specs.declared.faults.LineFault.TheVariants.{Memory, Refused};
 ghost use Rattle.system_parser.specs.Tokens.{placed_of};
-ghost use Rattle.system_parser.specs.Answers.{fault_of, IsInLine};
+ghost use Rattle.system_parser.specs.Readings.{fault_of, IsInLine};
 
 use crate::errors::{ParseError, ParseFault};
 use crate::tokens::{Placed, Token};

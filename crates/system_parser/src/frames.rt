@@ -37,6 +37,8 @@ impl Frame {
         requires over { IsPolynomial f VARS value.now }
         ensures sum { OnOk result ((frame_of f self.new).sum ≡
             with_last f (frame_of f self.old) value.now) }
+        ensures sign { self.new.is_negative ≡ self.old.is_negative }
+        ensures product { self.new.product ≡ self.old.product }
         ensures frame { OnOk result (IsFrame f self.new) }
     {
         // Tells that the modulus is positive.

@@ -3,9 +3,9 @@ ghost use Rattle.std.specs.List.{AllByRecursion};
 ghost use Rattle.std.specs.String.{string_bytes};
 ghost use Rattle.std.specs.Str.Parse.{AllDigits};
 ghost use Rattle.system_text.specs.Tokens.{Token as TextToken, Placed as TextPlaced};
-ghost use Rattle.system_text.specs.Lines.{after_word, word_first, prime_number, read_prime, with_name, read_order, names_from, is_text_of, reserved_names};
+ghost use Rattle.system_text.specs.Heads.{after_word, word_first, prime_number, read_prime, with_name, read_order, names_from, is_text_of, reserved_names};
 ghost use Rattle.system_parser.specs.Tokens.{token_of, placed_of, IsSpelled};
-ghost use Rattle.system_parser.specs.Answers.{Answers, Gives};
+ghost use Rattle.system_parser.specs.Readings.{GivesExactly, Gives};
 ghost use Rattle.system_parser.specs.Systems.{names_of};
 
 use crate::faults::{Fault, LineFault};
@@ -20,7 +20,7 @@ use std::alloc::{AllocError, Global};
 /// The field of the line `prime P`.
 pub fn read_prime(line: &[u8]) -> Result<Field, Fault>
     requires { length line.now ≤ 1_048_576 }
-    ensures { Answers (λ f. f) result (read_prime line.now) }
+    ensures { GivesExactly (λ f. f) result (read_prime line.now) }
 {
     let end = line.len() as u32 + 1;
     let mut tokens = Cursor::new(line);
@@ -36,7 +36,7 @@ pub fn read_prime(line: &[u8]) -> Result<Field, Fault>
 
 fn prime_of(t: &Placed<'_>, tokens: &mut Cursor<'_>) -> Result<Field, Fault>
     requires { IsSpelled (token_of t.now.token) }
-    ensures { Answers (λ f. f) result
+    ensures { GivesExactly (λ f. f) result
         (prime_number (placed_of t.now) (token_of t.now.token) tokens.old) }
 {
     match t.token {
@@ -47,7 +47,7 @@ fn prime_of(t: &Placed<'_>, tokens: &mut Cursor<'_>) -> Result<Field, Fault>
 
 fn prime_number(t: &Placed<'_>, digits: &[u8], tokens: &mut Cursor<'_>) -> Result<Field, Fault>
     requires { AllDigits 10 digits.now }
-    ensures { Answers (λ f. f) result
+    ensures { GivesExactly (λ f. f) result
         (prime_number (placed_of t.now) (TextToken.Number digits.now) tokens.old) }
 {
     let Some(p) = number_of(digits) else {
@@ -70,7 +70,7 @@ fn prime_number(t: &Placed<'_>, digits: &[u8], tokens: &mut Cursor<'_>) -> Resul
 
 /// Takes the word that a head line begins with.
 fn take_word(tokens: &mut Cursor<'_>, word: &[u8], number: u8, end: u32) -> Result<(), Fault>
-    ensures { Answers (λ _. tokens.new) result (word_first number word.now end tokens.old) }
+    ensures { GivesExactly (λ _. tokens.new) result (word_first number word.now end tokens.old) }
 {
     match tokens.next() {
         None => Err(Fault { number, byte: end }),
@@ -79,7 +79,7 @@ fn take_word(tokens: &mut Cursor<'_>, word: &[u8], number: u8, end: u32) -> Resu
 }
 
 fn is_word(t: &Placed<'_>, word: &[u8], number: u8) -> Result<(), Fault>
-    ensures { (ts : List TextPlaced) → Answers (λ _. ts) result
+    ensures { (ts : List TextPlaced) → GivesExactly (λ _. ts) result
         (after_word number word.now (placed_of t.now) (token_of t.now.token) ts) }
 {
     match t.token {
@@ -141,7 +141,7 @@ fn add_name(alloc: Global, names: &mut Names, t: &Placed<'_>) -> Result<(), Line
 
 /// Whether a name may stand after these.
 fn check_name(names: &Names, t: &Placed<'_>, name: &[u8]) -> Result<(), Fault>
-    ensures names { Answers (λ _. names_of names.now ++ name.now ∷ []) result
+    ensures names { GivesExactly (λ _. names_of names.now ++ name.now ∷ []) result
         (with_name VARS (names_of names.now) (placed_of t.now) (TextToken.Name name.now)) }
     ensures room { OnOk result (length names.now < VARS) }
 {

@@ -1,8 +1,9 @@
 ghost use Rattle.std.specs.Prelude.{◌≡◌, ◌≤◌, ℕ, length, IfOk, OnOk};
 ghost use Rattle.polynomials.specs.Polynomials.{IsPolynomial};
-ghost use Rattle.system_text.specs.Sums.{start, opened_at, at_sum, closed_at, next_term, after_factor, after_bare, after_base_token, step, ended_with, ended, read_sum};
+ghost use Rattle.system_text.specs.Sums.{start, opened_at, at_sum, closed_at, next_term, after_factor, after_bare, after_base_token, step, ended_with, ended, read_tokens, read_sum};
+ghost use Rattle.system_text.specs.Lines.{is_nonzero_line, is_nonzero_word, read_nonzero};
 ghost use Rattle.system_parser.specs.Tokens.{token_of, placed_of, IsSpelled};
-ghost use Rattle.system_parser.specs.Answers.{Gives};
+ghost use Rattle.system_parser.specs.Readings.{Gives};
 ghost use Rattle.system_parser.specs.Sums.{frame_of, frames_of, reading_of, IsReading};
 ghost use Rattle.system_parser.specs.Systems.{setting_over};
 
@@ -64,12 +65,57 @@ pub fn read_sum(alloc: Global, over: &System, line: &[u8]) -> Result<Poly, LineF
     ensures value { Gives (λ f. f) result (read_sum (setting_over over.now) line.now) }
     ensures over { IfOk result (IsPolynomial over.now.field VARS) }
 {
+    read_tokens(alloc, over, Cursor::new(line), line.len() as u32 + 1)
+}
+
+/// Reads a nonzero line, whose first token is its word, as the sum after it.
+pub fn read_nonzero(alloc: Global, over: &System, line: &[u8]) -> Result<Poly, LineFault>
+    requires names { length over.now.names ≤ VARS }
+    requires short { length line.now ≤ 1_048_576 }
+    ensures value { Gives (λ f. f) result (read_nonzero (setting_over over.now) line.now) }
+    ensures over { IfOk result (IsPolynomial over.now.field VARS) }
+{
     let mut tokens = Cursor::new(line);
+    tokens.next();
+    read_tokens(alloc, over, tokens, line.len() as u32 + 1)
+}
+
+/// Whether the first token of the line is the name `nonzero`.
+pub fn is_nonzero_line(line: &[u8]) -> bool
+    requires { length line.now ≤ 1_048_576 }
+    ensures { result ≡ is_nonzero_line line.now }
+{
+    match Cursor::new(line).next() {
+        None => false,
+        Some(t) => is_nonzero_word(t.token),
+    }
+}
+
+fn is_nonzero_word(token: Token<'_>) -> bool
+    ensures { result ≡ is_nonzero_word (token_of token.entry) }
+{
+    match token {
+        Token::Name(name) => name == b"nonzero".as_slice(),
+        _ => false,
+    }
+}
+
+/// Reads tokens up to the line's end as a sum.
+fn read_tokens(
+    alloc: Global,
+    over: &System,
+    mut tokens: Cursor<'_>,
+    end: u32,
+) -> Result<Poly, LineFault>
+    requires { length over.now.names ≤ VARS }
+    ensures value { Gives (λ f. f) result (read_tokens (setting_over over.now) end tokens.entry start) }
+    ensures over { IfOk result (IsPolynomial over.now.field VARS) }
+{
     let mut reading = Reading::start(alloc);
     while let Some(t) = tokens.next() {
         reading.step(over, &t)?;
     }
-    reading.ended(over, line.len() as u32 + 1)
+    reading.ended(over, end)
 }
 
 impl Reading {

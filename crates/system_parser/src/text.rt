@@ -1,17 +1,17 @@
-ghost use Rattle.std.specs.Prelude.{◌≡◌, ◌≤◌, length, IfOk, Ok};
+ghost use Rattle.std.specs.Prelude.{◌≡◌, ◌≤◌, length, IfOk, OnOk, Ok};
 ghost use Rattle.polynomials.specs.Polynomials.{ArePolynomials};
-ghost use Rattle.system_text.specs.Lines.{first_not_text, is_skipped, read_content, read_line, read_text, text_ends, TextSystem};
+ghost use Rattle.system_text.specs.Lines.{first_not_text, is_skipped, read_content, read_line, read_polynomial, read_text, text_ends, TextSystem};
 ghost use Rattle.system_text.specs.Systems.{IsSystemText};
 ghost use Rattle.system_text.specs.Laws.{IsSystem};
-ghost use Rattle.system_parser.specs.Answers.{Gives, Reads};
-ghost use Rattle.system_parser.specs.Systems.{text_system_of, progress_of, IsProgress};
+ghost use Rattle.system_parser.specs.Readings.{Gives, Reads};
+ghost use Rattle.system_parser.specs.Systems.{text_system_of, progress_of, IsProgress, IsOverVariables};
 
 use crate::characters::{is_character, leading_spaces, without_first};
 use crate::errors::{ParseError, ParseFault};
 use crate::faults::{Fault, LineFault};
 use crate::heads::{read_order, read_prime};
 use crate::lines::Lines;
-use crate::sums::read_sum;
+use crate::sums::{is_nonzero_line, read_nonzero, read_sum};
 use field_table::Field;
 use mono_words::VARS;
 use sparse_poly::{Polys, System};
@@ -38,6 +38,7 @@ pub fn parse(alloc: Global, bytes: &[u8]) -> Result<System, ParseFault>
     // What is accepted is a system.
     ensures lawful { IfOk result (λ s. IsSystem VARS (text_system_of s)) }
     ensures over { IfOk result (λ s. ArePolynomials s.field VARS s.inputs) }
+    ensures nonzero_over { IfOk result (λ s. ArePolynomials s.field VARS s.nonzero) }
 {
     read_lines(alloc, bytes)
 }
@@ -46,7 +47,7 @@ pub fn parse(alloc: Global, bytes: &[u8]) -> Result<System, ParseFault>
 fn read_lines(alloc: Global, bytes: &[u8]) -> Result<System, ParseFault>
     requires { length bytes.now ≤ 1_048_576 }
     ensures exact { Reads text_system_of result (read_text VARS bytes.now) }
-    ensures over { IfOk result (λ s. ArePolynomials s.field VARS s.inputs) }
+    ensures over { IfOk result IsOverVariables }
 {
     let mut lines = Lines::new(bytes);
     let mut progress = Progress::AtPrime;
@@ -97,8 +98,7 @@ impl Progress {
                 }))
             }
             Progress::AtSums(mut system) => {
-                let input = read_sum(alloc, &system, line)?;
-                system.inputs.push(input)?;
+                add_polynomial(alloc, &mut system, line)?;
                 Ok(Progress::AtSums(system))
             }
         }
@@ -108,7 +108,7 @@ impl Progress {
     fn ended(self, line: u32, byte: u32) -> Result<System, ParseFault>
         requires { IsProgress self }
         ensures value { Reads text_system_of result (text_ends line byte (progress_of self)) }
-        ensures over { IfOk result (λ s. ArePolynomials s.field VARS s.inputs) }
+        ensures over { IfOk result IsOverVariables }
     {
         match self {
             Progress::AtPrime => Err(ParseFault::Refused(ParseError {
@@ -124,6 +124,24 @@ impl Progress {
             Progress::AtSums(system) => Ok(system),
         }
     }
+}
+
+/// Adds the polynomial of a line after the order line.
+fn add_polynomial(alloc: Global, system: &mut System, line: &[u8]) -> Result<(), LineFault>
+    requires short { length line.now ≤ 1_048_576 }
+    requires over { IsOverVariables system.old }
+    ensures value { Gives (λ _. text_system_of system.new) result
+        (read_polynomial VARS (text_system_of system.old) line.now) }
+    ensures over { OnOk result (IsOverVariables system.new) }
+{
+    if is_nonzero_line(line) {
+        let nonzero = read_nonzero(alloc, system, line)?;
+        system.nonzero.push(nonzero)?;
+    } else {
+        let input = read_sum(alloc, system, line)?;
+        system.inputs.push(input)?;
+    }
+    Ok(())
 }
 
 /// Whether the line holds spaces alone or is a comment.

@@ -4,7 +4,7 @@ use Rattle.std.proofs.lemmas.Slice.Eq.{bytes_eq-Decides}
 use Rattle.std.specs.Str.{bytes_eq}
 use Rattle.system_text.specs.Tokens.{Token, Placed, Name, unplaced}
 use Rattle.system_text.specs.Faults.{misplaced}
-use Rattle.system_text.specs.Lines.{after_word, word_first}
+use Rattle.system_text.specs.Heads.{after_word, word_first}
 use Rattle.system_text.proofs.Passed.{ok_from_test}
 
 -- the word first, as it is read

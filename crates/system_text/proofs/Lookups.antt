@@ -6,7 +6,7 @@ use Rattle.std.proofs.lemmas.Slice.Eq.{bytes_eq-Decides}
 use Rattle.std.specs.Prelude.{Contains, slice_index_or}
 use Rattle.std.specs.Str.{bytes_eq}
 use Rattle.polynomials.specs.Primes.{field_primes}
-use Rattle.system_text.specs.Lines.{is_one_of, is_text_of}
+use Rattle.system_text.specs.Heads.{is_one_of, is_text_of}
 use Rattle.system_text.specs.Systems.{AreDifferent}
 
 contains_if : (b : Bool) (y x : ℕ) (ys : List ℕ) → (b ≡ true → y ≡ x) → (is_one_of ys x ≡ true → Contains ys x) → (b || is_one_of ys x) ≡ true → Contains (y ∷ ys) x

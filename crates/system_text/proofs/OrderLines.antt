@@ -6,7 +6,7 @@ use Rattle.std.specs.List.{AllByRecursion}
 use Rattle.system_text.specs.Characters.{is_name}
 use Rattle.system_text.specs.Tokens.{Token, Placed, Name, tokens, unplaced}
 use Rattle.system_text.specs.Faults.{Fault, fault}
-use Rattle.system_text.specs.Lines.{is_text_of, reserved_names, word_first, with_name, names_end, names_from, and_then_read, read_order}
+use Rattle.system_text.specs.Heads.{is_text_of, reserved_names, word_first, with_name, names_end, names_from, and_then_read, read_order}
 use Rattle.system_text.specs.Systems.{AreDifferent, SpellsOrder}
 use Rattle.system_text.proofs.TokenTexts.{IsWellSpelled, AllByRecursion-append, AllByRecursion-parts, line_is_well_spelled}
 use Rattle.system_text.proofs.Lookups.{AreDifferent-push, different_from_front}

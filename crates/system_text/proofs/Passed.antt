@@ -1,7 +1,7 @@
 -- What is known where a test or a reading passed.
 use Rattle.std.proofs.Common.{◌≡◌, Bool, true, false, cond, Result, Ok, Err, refl}
 use Rattle.system_text.specs.Faults.{Fault}
-use Rattle.system_text.specs.Lines.{and_then_read}
+use Rattle.system_text.specs.Heads.{and_then_read}
 
 -- what follows a test that refuses
 pub ok_after_test : {A : Type 0} (b : Bool) (d : Fault) (x : Result A Fault) (y : A) → cond b (Err d) x ≡ Ok y → (b ≡ false) × (x ≡ Ok y)

@@ -7,7 +7,7 @@ use Rattle.system_text.specs.Characters.{is_character}
 use Rattle.system_text.specs.Tokens.{Token, Name}
 use Rattle.system_text.specs.Lines.{lines_of, first_not_text}
 use Rattle.system_text.specs.Grammar.{Sum, Term, Factor, Base, First, FirstNegative, Added, TakenAway, Single, Multiplied, Bare, Raised, Numeral, Variable, Parenthesis, sum_tokens, term_tokens, factor_tokens, base_tokens}
-use Rattle.system_text.specs.Systems.{IsPlain}
+use Rattle.system_text.specs.Systems.{HasTextBytes}
 use Rattle.system_text.proofs.TokenTexts.{IsText, AllByRecursion-append}
 
 -- a line of characters alone
@@ -38,10 +38,10 @@ onto_first_from b [] e h = ((e, tt), tt)
 onto_first_from b (line ∷ lines) e h = ((e, h.0), h.1)
 
 -- a text whose lines have characters alone
-pub plain_from_lines : (bytes : List ℕ) → AllByRecursion HasCharacters (lines_of bytes) → IsPlain bytes
+pub plain_from_lines : (bytes : List ℕ) → AllByRecursion HasCharacters (lines_of bytes) → HasTextBytes bytes
 plain_from_lines [] h = tt
 plain_from_lines (b ∷ bs) h =
-    cond_both (eqb b 10) ([] ∷ lines_of bs) (onto_first b (lines_of bs)) (λ lines. AllByRecursion HasCharacters lines → IsPlain (b ∷ bs))
+    cond_both (eqb b 10) ([] ∷ lines_of bs) (onto_first b (lines_of bs)) (λ lines. AllByRecursion HasCharacters lines → HasTextBytes (b ∷ bs))
     (λ e k. (inr (eqb-true b 10 e), plain_from_lines bs k.1))
     (λ e k.
     let parts = onto_first_parts b (lines_of bs) k in
@@ -53,7 +53,7 @@ other_byte b (inl h) e = h
 other_byte b (inr h) e = absurd (eqb-false b 10 e h)
 
 -- and back
-pub lines_from_plain : (bytes : List ℕ) → IsPlain bytes → AllByRecursion HasCharacters (lines_of bytes)
+pub lines_from_plain : (bytes : List ℕ) → HasTextBytes bytes → AllByRecursion HasCharacters (lines_of bytes)
 lines_from_plain [] h = (tt, tt)
 lines_from_plain (b ∷ bs) h =
     cond_both (eqb b 10) ([] ∷ lines_of bs) (onto_first b (lines_of bs)) (AllByRecursion HasCharacters)

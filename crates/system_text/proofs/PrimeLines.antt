@@ -9,7 +9,7 @@ use Rattle.polynomials.specs.Primes.{field_primes}
 use Rattle.system_text.specs.Tokens.{Token, Placed, Name, Number, tokens, unplaced}
 use Rattle.system_text.specs.Faults.{fault}
 use Rattle.system_text.specs.Limits.{most_digits}
-use Rattle.system_text.specs.Lines.{is_one_of, at_end, word_first, prime_number, prime_from, and_then_read, read_prime}
+use Rattle.system_text.specs.Heads.{is_one_of, at_end, word_first, prime_number, prime_from, and_then_read, read_prime}
 use Rattle.system_text.specs.Systems.{SpellsPrime}
 use Rattle.system_text.proofs.CharacterLemmas.{IsFull}
 use Rattle.system_text.proofs.TokenTexts.{IsWellSpelled, line_is_well_spelled}

@@ -1,12 +1,15 @@
 -- A line is read as a polynomial exactly where it spells a sum of that value.
-use Rattle.std.proofs.Common.{◌≡◌, ℕ, ◌+◌, ◌<◌, List, [], ◌∷◌, ◌++◌, length, Option, Some, None, Result, Ok, Err, refl, sym, ap, ◌∙◌, subst, append_assoc, append-nil}
+use Rattle.std.proofs.Common.{◌≡◌, ℕ, ◌+◌, ◌<◌, true, List, [], ◌∷◌, ◌++◌, length, Option, Some, None, Result, Ok, Err, refl, sym, ap, ◌∙◌, subst, append_assoc, append-nil}
+use Rattle.std.proofs.lemmas.Slice.Eq.{bytes_eq-Decides}
+use Rattle.std.specs.Prelude.{drop, codes}
 use Rattle.polynomials.specs.Polynomials.{Polynomial}
-use Rattle.system_text.specs.Tokens.{Token, Placed, tokens, unplaced}
+use Rattle.system_text.specs.Tokens.{Token, Placed, Name, tokens, unplaced}
 use Rattle.system_text.specs.Faults.{Fault}
-use Rattle.system_text.specs.Sums.{Setting, Frame, Mode, Reading, AtSum, AtFactor, AfterBase, AtExponent, AfterFactor, start, times_within, with_last, step, ended_with, ended_bare, ended_in, read_tokens}
+use Rattle.system_text.specs.Sums.{Setting, Frame, Mode, Reading, AtSum, AtFactor, AfterBase, AtExponent, AfterFactor, start, times_within, with_last, step, ended_with, ended_bare, ended_in, read_tokens, read_sum}
 use Rattle.system_text.specs.Grammar.{Sum, sum_tokens, sum_value, IsSumWithin}
-use Rattle.system_text.specs.Systems.{SpellsSum}
-use Rattle.system_text.specs.Laws.{SpelledSumsAreRead}
+use Rattle.system_text.specs.Lines.{is_nonzero_word, begin_with_nonzero, is_nonzero_line, read_nonzero}
+use Rattle.system_text.specs.Systems.{SpellsAfter, SpellsSum, SpellsNonzero, nonzero_word}
+use Rattle.system_text.specs.Laws.{SpelledSumsAreRead, SpelledNonzeroLinesAreRead}
 use Rattle.system_text.proofs.Places.{read_at_places}
 use Rattle.system_text.proofs.TreesAreRead.{tree_is_read}
 use Rattle.system_text.proofs.PartialTrees.{Part, outer_tokens, OuterMeans, EndsWithTerm, Means, ReadingMeans, sum_from_term}
@@ -65,14 +68,47 @@ module _ (s : Setting) (many : 1 < s.modulus) where
   pub read_from_spelled : (end : ℕ) (ts : List Placed) (f : Polynomial) → AreSumTokens s (unplaced ts) f → read_tokens s end ts start ≡ Ok f
   read_from_spelled end ts f h = read_at_places s end ts start f (rw h.spelled (tree_is_read s many h.tree f h.value h.within))
 
+  -- a line whose tokens after the first few are read spells a sum after these
+  pub spelled_after : (end : ℕ) (first : List Token) (line : List ℕ) (ts : List Placed) (f : Polynomial) → unplaced (tokens line) ≡ first ++ unplaced ts → read_tokens s end ts start ≡ Ok f → SpellsAfter first s line f
+  spelled_after end first line ts f whole e =
+      let h = spelled_from_read end ts f e in
+      record { tree = h.tree; spelled = whole ∙ ap (λ xs. first ++ xs) h.spelled; value = h.value; within = h.within }
+
 -- the law of what is read of a line
 pub spelled_sums_are_read : SpelledSumsAreRead
 spelled_sums_are_read s line f many = (there, back)
   where
-    there : read_tokens s (length line + 1) (tokens line) start ≡ Ok f → SpellsSum s line f
-    there e =
-        let h = spelled_from_read s many (length line + 1) (tokens line) f e in
-        record { tree = h.tree; spelled = h.spelled; value = h.value; within = h.within }
+    there : read_sum s line ≡ Ok f → SpellsSum s line f
+    there e = spelled_after s many (length line + 1) [] line (tokens line) f refl e
 
-    back : SpellsSum s line f → read_tokens s (length line + 1) (tokens line) start ≡ Ok f
+    back : SpellsSum s line f → read_sum s line ≡ Ok f
     back h = read_from_spelled s many (length line + 1) (tokens line) f (record { tree = h.tree; spelled = h.spelled; value = h.value; within = h.within })
+
+-- the word first, and then the other tokens
+word_first_is : (ts : List Placed) → begin_with_nonzero (unplaced ts) ≡ true → unplaced ts ≡ nonzero_word ++ unplaced (drop 1 ts)
+word_first_is [] e = absurd cc
+word_first_is (t ∷ ts) e = by_token t.token refl e
+  where
+    by_token : (x : Token) → t.token ≡ x → is_nonzero_word x ≡ true → unplaced (t ∷ ts) ≡ nonzero_word ++ unplaced ts
+    by_token (Name x) d k =
+        let same : x ≡ codes "nonzero" = (bytes_eq-Decides x (codes "nonzero")).0 k in
+        ap (λ y. y ∷ unplaced ts) (d ∙ ap (λ y. Name y) same)
+    by_token Token.Plus d k = absurd cc
+    by_token _ d k = absurd cc
+
+after_first : (ts : List Placed) (x : Token) (xs : List Token) → unplaced ts ≡ x ∷ xs → unplaced (drop 1 ts) ≡ xs
+after_first [] x xs e = absurd cc
+after_first (t ∷ ts) x xs e = cc
+
+-- the law of what is read of a nonzero line
+pub spelled_nonzero_lines_are_read : SpelledNonzeroLinesAreRead
+spelled_nonzero_lines_are_read s line f many = (there, back)
+  where
+    there : (is_nonzero_line line ≡ true) × (read_nonzero s line ≡ Ok f) → SpellsNonzero s line f
+    there h = spelled_after s many (length line + 1) nonzero_word line (drop 1 (tokens line)) f (word_first_is (tokens line) h.0) h.1
+
+    back : SpellsNonzero s line f → (is_nonzero_line line ≡ true) × (read_nonzero s line ≡ Ok f)
+    back h = (
+      ap begin_with_nonzero h.spelled ∙ (bytes_eq-Decides (codes "nonzero") (codes "nonzero")).1 refl,
+      read_from_spelled s many (length line + 1) (drop 1 (tokens line)) f (record { tree = h.tree; spelled = after_first (tokens line) (Name (codes "nonzero")) (sum_tokens h.tree) h.spelled; value = h.value; within = h.within }),
+    )

@@ -1,12 +1,12 @@
 -- A text is read as a system exactly where it is that system's.
-use Rattle.std.proofs.Common.{◌≡◌, ℕ, suc, ◌+◌, Bool, true, false, cond, not, List, [], ◌∷◌, ◌++◌, length, Option, Some, None, Result, Ok, Err, refl, sym, ap, ◌∙◌, subst, append-nil}
+use Rattle.std.proofs.Common.{◌≡◌, ℕ, suc, ◌+◌, Bool, true, false, cond, not, List, [], ◌∷◌, length, Option, Some, None, Result, Ok, Err, refl, sym, ap, ap₂, ◌∙◌, subst, append-nil}
 use Rattle.std.specs.List.{AllByRecursion}
 use Rattle.system_text.specs.Faults.{Fault, Refusal}
 use Rattle.system_text.specs.Lines.{lines_of, is_skipped, first_not_text, TextSystem, Progress, AtPrime, AtOrder, AtSums, read_content, skipped, read_line, refusal_in, text_ends, read_lines, read_text}
 use Rattle.system_text.specs.Systems.{IsSystemText}
 use Rattle.system_text.specs.Laws.{SystemTextsAreRead}
 use Rattle.system_text.proofs.PlainTexts.{HasCharacters, characters_from_none, none_from_characters, plain_from_lines, lines_from_plain}
-use Rattle.system_text.proofs.TextLines.{contents_of, HasPrime, Completes, content_is_spelled, content_is_read}
+use Rattle.system_text.proofs.TextLines.{contents_of, of_polynomials, with_polynomials, HasPrime, Completes, content_is_spelled, content_is_read}
 
 module _ (n : ℕ) where
   -- the lines have characters alone, and those that aren't skipped complete what was read
@@ -19,14 +19,15 @@ module _ (n : ℕ) where
   text_is_complete number end (AtOrder p) system e = absurd cc
   text_is_complete number end (AtSums earlier) system e =
       let same : system ≡ earlier = cc in
-      ([], same ∙ ap (λ fs. record { prime = earlier.prime; names = earlier.names; inputs = fs; nonzero = earlier.nonzero }) (sym (append-nil earlier.inputs)), refl)
+      ([], [], same ∙ ap₂ (of_polynomials earlier) (sym (append-nil earlier.inputs)) (sym (append-nil earlier.nonzero)), refl, refl)
 
   complete_text_ends : (number end : ℕ) (progress : Progress) (system : TextSystem) → Completes n progress [] system → text_ends number end progress ≡ Ok system
   complete_text_ends number end AtPrime system k = absurd (cc k.3)
   complete_text_ends number end (AtOrder p) system k = absurd (cc k.2)
   complete_text_ends number end (AtSums earlier) system k =
-      let none : k.0 ≡ [] = k.2 in
-      let same : earlier ≡ system = sym (k.1 ∙ ap (λ fs. record { prime = earlier.prime; names = earlier.names; inputs = earlier.inputs ++ fs; nonzero = earlier.nonzero }) none ∙ ap (λ fs. record { prime = earlier.prime; names = earlier.names; inputs = fs; nonzero = earlier.nonzero }) (append-nil earlier.inputs)) in
+      let inputs : k.0 ≡ [] = k.3 in
+      let nonzero : k.1 ≡ [] = k.4 in
+      let same : earlier ≡ system = sym (k.2 ∙ ap₂ (with_polynomials earlier) inputs nonzero ∙ ap₂ (of_polynomials earlier) (append-nil earlier.inputs) (append-nil earlier.nonzero)) in
       ap (λ x. Ok x) same
 
   skipped_is : (line : List ℕ) (progress next : Progress) (o : Option ℕ) → first_not_text 1 line ≡ o → skipped progress o ≡ Ok next → HasCharacters line × (progress ≡ next)
@@ -96,7 +97,7 @@ system_texts_are_read n bytes system = (there, back)
     there e =
         let h = lines_are_spelled n 0 1 AtPrime (lines_of bytes) system tt e in
         let k = h.completes in
-        record { plain = plain_from_lines bytes h.characters; prime_line = k.0; order_line = k.1; sum_lines = k.2; lines = k.3; prime = k.4; order = k.5; sums = k.6; nonzero = k.7 }
+        record { characters = plain_from_lines bytes h.characters; prime_line = k.0; order_line = k.1; further_lines = k.2; lines = k.3; prime = k.4; order = k.5; polynomials = k.6 }
 
     back : IsSystemText n bytes system → read_text n bytes ≡ Ok system
-    back h = lines_are_read n 0 1 AtPrime (lines_of bytes) system tt (lines_from_plain bytes h.plain) (h.prime_line, h.order_line, h.sum_lines, h.lines, h.prime, h.order, h.sums, h.nonzero)
+    back h = lines_are_read n 0 1 AtPrime (lines_of bytes) system tt (lines_from_plain bytes h.characters) (h.prime_line, h.order_line, h.further_lines, h.lines, h.prime, h.order, h.polynomials)

@@ -1,4 +1,4 @@
--- The grammar of sums: syntax trees, how they are spelled, their values, and the limits that they meet.
+-- The grammar of sums: syntax trees, how they are spelled, their values, and their limits.
 use Rattle.std.specs.Prelude.{ℕ, suc, ◌%◌, ◌<◌, ◌≤◌, List, [], ◌∷◌, ◌++◌, length, Option, Some, None}
 use Rattle.std.specs.Str.Parse.{digits_value}
 use Rattle.polynomials.specs.Polynomials.{Polynomial, sum_of, difference_of, negative_of, constant_of, variable_power}

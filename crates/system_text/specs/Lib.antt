@@ -4,6 +4,7 @@ pub mod Faults
 pub mod Limits
 pub mod Sums
 pub mod Grammar
+pub mod Heads
 pub mod Lines
 pub mod Systems
 pub mod Laws

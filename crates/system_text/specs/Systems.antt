@@ -1,5 +1,5 @@
 -- What a system text is, by its grammar.
-use Rattle.std.specs.Prelude.{◌≡◌, ◌≢◌, ◌⊎◌, ℕ, ◌≤◌, true, false, not, List, [], ◌∷◌, length, map, filter, Some, Contains, codes, IsTrue}
+use Rattle.std.specs.Prelude.{◌≡◌, ◌≢◌, ◌⊎◌, ℕ, ◌≤◌, true, false, not, List, [], ◌∷◌, ◌++◌, length, map, filter, Some, Contains, codes, IsTrue}
 use Rattle.std.specs.List.{AllByRecursion}
 use Rattle.std.specs.Str.Parse.{digits_value}
 use Rattle.polynomials.specs.Primes.{field_primes}
@@ -8,24 +8,37 @@ use Rattle.system_text.specs.Characters.{is_character, is_name}
 use Rattle.system_text.specs.Tokens.{Token, Name, Number, tokens, unplaced}
 use Rattle.system_text.specs.Sums.{Setting}
 use Rattle.system_text.specs.Grammar.{Sum, sum_tokens, sum_value, IsSumWithin}
-use Rattle.system_text.specs.Lines.{lines_of, is_skipped, is_text_of, reserved_names, TextSystem, setting_of}
+use Rattle.system_text.specs.Heads.{is_text_of, reserved_names}
+use Rattle.system_text.specs.Lines.{lines_of, is_skipped, is_nonzero_line, TextSystem, setting_of}
 
 -- the line has these tokens
 abbrev pub HasTokens : List ℕ → List Token → Type 0
 HasTokens line ts = unplaced (tokens line) ≡ ts
 
--- the line spells a sum within the limits whose value is f
-pub record SpellsSum (s : Setting) (line : List ℕ) (f : Polynomial) : Type 0 where
+-- the line has these tokens first, and then spells a sum within the limits whose value is f
+pub record SpellsAfter (first : List Token) (s : Setting) (line : List ℕ) (f : Polynomial) : Type 0 where
   pub tree : Sum
-  pub spelled : HasTokens line (sum_tokens tree)
+  pub spelled : HasTokens line (first ++ sum_tokens tree)
   pub value : sum_value s tree ≡ Some f
   pub within : IsSumWithin 0 tree
 
--- the lines spell these polynomials, one each
-abbrev pub SpellSums : Setting → List (List ℕ) → List Polynomial → Type 0
-SpellSums s [] fs = fs ≡ []
-SpellSums s (line ∷ lines) [] = ⊥
-SpellSums s (line ∷ lines) (f ∷ fs) = SpellsSum s line f × SpellSums s lines fs
+-- the line spells a sum within the limits whose value is f
+abbrev pub SpellsSum : Setting → List ℕ → Polynomial → Type 0
+SpellsSum = SpellsAfter []
+
+-- the word that begins a nonzero line
+abbrev pub nonzero_word : List Token
+nonzero_word = Name (codes "nonzero") ∷ []
+
+-- the line is `nonzero` and such a sum
+abbrev pub SpellsNonzero : Setting → List ℕ → Polynomial → Type 0
+SpellsNonzero = SpellsAfter nonzero_word
+
+-- the lines spell these polynomials, one each, after these tokens
+abbrev pub SpellEach : List Token → Setting → List (List ℕ) → List Polynomial → Type 0
+SpellEach first s [] fs = fs ≡ []
+SpellEach first s (line ∷ lines) [] = ⊥
+SpellEach first s (line ∷ lines) (f ∷ fs) = SpellsAfter first s line f × SpellEach first s lines fs
 
 -- the line is `prime` and this number
 pub record SpellsPrime (line : List ℕ) (p : ℕ) : Type 0 where
@@ -57,17 +70,24 @@ abbrev pub content_of : List ℕ → List (List ℕ)
 content_of bytes = filter (λ line. not (is_skipped line)) (lines_of bytes)
 
 -- each byte is a character or ends a line
-abbrev pub IsPlain : List ℕ → Type 0
-IsPlain bytes = AllByRecursion (λ b. IsTrue (is_character b) ⊎ (b ≡ 10)) bytes
+abbrev pub HasTextBytes : List ℕ → Type 0
+HasTextBytes bytes = AllByRecursion (λ b. IsTrue (is_character b) ⊎ (b ≡ 10)) bytes
+
+-- of these lines those that begin with `nonzero` spell the polynomials that must not vanish, and the
+-- others those whose zeros are sought, both in order
+pub record SpellPolynomials (n : ℕ) (lines : List (List ℕ)) (system : TextSystem) : Type 0 where
+  pub inputs :
+      SpellEach [] (setting_of n system) (filter (λ line. not (is_nonzero_line line)) lines) system.inputs
+  pub nonzero :
+      SpellEach nonzero_word (setting_of n system) (filter is_nonzero_line lines) system.nonzero
 
 -- the text is the system: a prime line, an order line, and a line for each polynomial
 pub record IsSystemText (n : ℕ) (bytes : List ℕ) (system : TextSystem) : Type 0 where
-  pub plain : IsPlain bytes
+  pub characters : HasTextBytes bytes
   pub prime_line : List ℕ
   pub order_line : List ℕ
-  pub sum_lines : List (List ℕ)
-  pub lines : content_of bytes ≡ prime_line ∷ order_line ∷ sum_lines
+  pub further_lines : List (List ℕ)
+  pub lines : content_of bytes ≡ prime_line ∷ order_line ∷ further_lines
   pub prime : SpellsPrime prime_line system.prime
   pub order : SpellsOrder n order_line system.names
-  pub sums : SpellSums (setting_of n system) sum_lines system.inputs
-  pub nonzero : system.nonzero ≡ []
+  pub polynomials : SpellPolynomials n further_lines system

@@ -3,4 +3,7 @@
 
 mod laws;
 
-pub use laws::{spelled_sums_are_read, system_texts_are_read, what_is_read_is_a_system};
+pub use laws::{
+    spelled_nonzero_lines_are_read, spelled_sums_are_read, system_texts_are_read,
+    what_is_read_is_a_system,
+};

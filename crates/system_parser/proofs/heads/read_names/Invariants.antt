@@ -1,7 +1,7 @@
 -- What was read and what is to come are the whole.
 use Rattle.std.proofs.Common.{◌≡◌, ◌≤◌, length}
 use Rattle.mono_words.specs.declared.mono.TheConstants.{VARS}
-use Rattle.system_text.specs.Lines.{names_from}
+use Rattle.system_text.specs.Heads.{names_from}
 use Rattle.system_parser.specs.Systems.{names_of}
 use Rattle.system_parser.proofs.heads.read_names.Given as goal
 

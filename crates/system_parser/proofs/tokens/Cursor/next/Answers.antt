@@ -8,9 +8,11 @@ use Rattle.system_parser.proofs.tokens.Cursor.next.Goals as goal
 
 pub returns-then-is_empty-clause-token : goal.returns-then-is_empty-clause-token
 returns-then-is_empty-clause-token c =
+    let none =
     sym c.self.view_is
     ∙ no_token_left c.self.inside.place c.leading_spaces-spaces.result c.self.inside.rest.now c.leading_spaces-spaces.ensures.count
-    (ap length (sym c.without_first-start.ensures) ∙ eqb-true (length c.without_first-start.result.now) 0 (sym c.is_empty.ensures ∙ c.if-is_empty.true))
+    (ap length (sym c.without_first-start.ensures) ∙ eqb-true (length c.without_first-start.result.now) 0 (sym c.is_empty.ensures ∙ c.if-is_empty.true)) in
+    (none, none)
 
 pub at-token-requires-clause-no_space : goal.at-token-requires-clause-no_space
 at-token-requires-clause-no_space c =

@@ -20,9 +20,9 @@ IsInLine line (LineFault.Memory e) fault = fault ≡ ParseFault.Memory e
 IsInLine line (LineFault.Refused e) fault = fault ≡ ParseFault.Refused (record { number = e.number; line = line; byte = e.byte })
 
 -- what is owed was answered
-abbrev pub Answers : {A B : Type 0} → (A → B) → Result A Fault → Result B TextFault → Type 0
-Answers view (Ok x) owed = owed ≡ Ok (view x)
-Answers view (Err e) owed = owed ≡ Err (fault_of e)
+abbrev pub GivesExactly : {A B : Type 0} → (A → B) → Result A Fault → Result B TextFault → Type 0
+GivesExactly view (Ok x) owed = owed ≡ Ok (view x)
+GivesExactly view (Err e) owed = owed ≡ Err (fault_of e)
 
 -- what is owed was answered, or there was no memory for it
 abbrev pub Gives : {A B : Type 0} → (A → B) → Result A LineFault → Result B TextFault → Type 0
