@@ -1,3 +1,4 @@
+pub mod VariableBases
 pub mod Runs
 pub mod Spellings
 pub mod RaisedMonomials
