@@ -39,7 +39,7 @@ module _ (p n : ℕ) (many : 1 < p) where
     degrees = ap (degree_in v) (sym (terms-first_cofactor h)) ∙ step.degrees ∙ ap (λ a. degree_in v a + fall (canonical_operations p n many) v f g) (terms-first_cofactor g);
     factors = terms_all p n many step.factors;
     initials = down_initials chain step.factors step.initials;
-    leads = ap (λ a. product_of p u.0 (lead (list_operations p n) v a)) (sym (terms-first_cofactor h)) ∙ ap (λ x. x.0) step.leads ∙ ap (negative_of p) (ap₂ (product_of p) (terms-product_of_all p n many step.factors) (ap (product_of p (lead (list_operations p n) v f.first.0)) (ap₂ (product_of p) (terms-power_of p n many (lead (canonical_operations p n many) v g.first) (fall (canonical_operations p n many) v f g)) (ap (lead (list_operations p n) v) (terms-first_cofactor g)))));
+    cofactor_lead = ap (λ a. product_of p u.0 (lead (list_operations p n) v a)) (sym (terms-first_cofactor h)) ∙ ap (λ x. x.0) step.cofactor_lead ∙ ap (negative_of p) (ap₂ (product_of p) (terms-product_of_all p n many step.factors) (ap (product_of p (lead (list_operations p n) v f.first.0)) (ap₂ (product_of p) (terms-power_of p n many (lead (canonical_operations p n many) v g.first) (fall (canonical_operations p n many) v f g)) (ap (lead (list_operations p n) v) (terms-first_cofactor g)))));
   }
 
   -- the divisor that was used

@@ -30,7 +30,7 @@ single_rows : rows_with_cofactors 5 2 100 1 single_t single_c [] ≡ record { la
 single_rows = refl
 
 single_steps : AreCofactorSteps (list_operations 5 2) 100 1 (rows_of_chain 5 2 []) 2 None (row_of_t 2 single_t []) (row_of_c 2 single_c []) [] (Some single_zero)
-single_steps = (record { degrees = refl; factors = []; initials = tt; leads = refl }, refl)
+single_steps = (record { degrees = refl; factors = []; initials = tt; cofactor_lead = refl }, refl)
 
 -- modulo 5 in a < x: 2 a^2 x^4 + a^2 x and 2 a^2 x^3; the degree falls by 2 at the second row
 abbrev steep_t : Polynomial
@@ -49,7 +49,7 @@ steep_rows : rows_with_cofactors 5 2 100 1 steep_t steep_c [] ≡ record { later
 steep_rows = refl
 
 steep_steps : AreCofactorSteps (list_operations 5 2) 100 1 (rows_of_chain 5 2 []) 4 None (row_of_t 2 steep_t []) (row_of_c 2 steep_c []) (steep_row_two ∷ []) (Some steep_zero)
-steep_steps = (record { degrees = refl; factors = []; initials = tt; leads = refl }, (record { degrees = refl; factors = []; initials = tt; leads = refl }, refl))
+steep_steps = (record { degrees = refl; factors = []; initials = tt; cofactor_lead = refl }, (record { degrees = refl; factors = []; initials = tt; cofactor_lead = refl }, refl))
 
 -- modulo 3 in a < x: 2 a x^4 and a x^3 + 2 a x below a^2 + 1; the third row has no quotient by a^2
 abbrev skipped_t : Polynomial
@@ -74,7 +74,7 @@ skipped_rows : rows_with_cofactors 3 2 100 1 skipped_t skipped_c skipped_chain �
 skipped_rows = refl
 
 skipped_steps : AreCofactorSteps (list_operations 3 2) 100 1 (rows_of_chain 3 2 skipped_chain) 4 None (row_of_t 2 skipped_t skipped_chain) (row_of_c 2 skipped_c skipped_chain) (skipped_row_two ∷ skipped_row_three ∷ []) (Some skipped_zero)
-skipped_steps = (record { degrees = refl; factors = (term (0 ∷ 0 ∷ []) 1 ∷ []) ∷ []; initials = (inl refl, tt); leads = refl }, (record { degrees = refl; factors = (term (0 ∷ 0 ∷ []) 1 ∷ []) ∷ []; initials = (inl refl, tt); leads = refl }, (record { degrees = refl; factors = []; initials = tt; leads = refl }, refl)))
+skipped_steps = (record { degrees = refl; factors = (term (0 ∷ 0 ∷ []) 1 ∷ []) ∷ []; initials = (inl refl, tt); cofactor_lead = refl }, (record { degrees = refl; factors = (term (0 ∷ 0 ∷ []) 1 ∷ []) ∷ []; initials = (inl refl, tt); cofactor_lead = refl }, (record { degrees = refl; factors = []; initials = tt; cofactor_lead = refl }, refl)))
 
 -- modulo 5 in a < b < x: 4 a x^2 + 3 b and 4 a x + 4 below a b + 3, whose initial a multiplies the cofactor
 abbrev multiplied_t : Polynomial
@@ -93,7 +93,7 @@ multiplied_rows : rows_with_cofactors 5 3 100 2 multiplied_t multiplied_c multip
 multiplied_rows = refl
 
 multiplied_steps : AreCofactorSteps (list_operations 5 3) 100 2 (rows_of_chain 5 3 multiplied_chain) 2 None (row_of_t 3 multiplied_t multiplied_chain) (row_of_c 3 multiplied_c multiplied_chain) [] (Some multiplied_zero)
-multiplied_steps = (record { degrees = refl; factors = (term (1 ∷ 0 ∷ 0 ∷ []) 1 ∷ []) ∷ []; initials = (inl refl, tt); leads = refl }, refl)
+multiplied_steps = (record { degrees = refl; factors = (term (1 ∷ 0 ∷ 0 ∷ []) 1 ∷ []) ∷ []; initials = (inl refl, tt); cofactor_lead = refl }, refl)
 
 five_is_prime : IsPrime 5
 five_is_prime = record { many = omega arith; no_divisor = none }
@@ -148,7 +148,7 @@ vanishing_rows : rows_with_cofactors 5 2 100 1 vanishing_t vanishing_c vanishing
 vanishing_rows = refl
 
 vanishing_steps : AreCofactorSteps (list_operations 5 2) 100 1 (rows_of_chain 5 2 vanishing_chain) 3 None (row_of_t 2 vanishing_t vanishing_chain) (row_of_c 2 vanishing_c vanishing_chain) (vanishing_row_two ∷ []) (Some vanishing_zero)
-vanishing_steps = (record { degrees = refl; factors = []; initials = tt; leads = refl }, (record { degrees = refl; factors = (term (0 ∷ 0 ∷ []) 1 ∷ []) ∷ []; initials = (inl refl, tt); leads = refl }, refl))
+vanishing_steps = (record { degrees = refl; factors = []; initials = tt; cofactor_lead = refl }, (record { degrees = refl; factors = (term (0 ∷ 0 ∷ []) 1 ∷ []) ∷ []; initials = (inl refl, tt); cofactor_lead = refl }, refl))
 
 vanishing_reduces : reduction_of 5 2 (vanishing_chain ++ vanishing_t ∷ []) (first_cofactor (list_operations 5 2) vanishing_zero) ≡ []
 vanishing_reduces = refl

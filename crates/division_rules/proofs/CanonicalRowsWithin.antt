@@ -6,7 +6,7 @@ use Rattle.division_rules.specs.Rows.{Row}
 use Rattle.division_rules.specs.Within.{times_within, elimination_within, sparse_remainder_by_within, sparse_remainder_within, times_row_within, pseudo_remainder_by_within, pseudo_remainder_within, reduction_within, power_of_within}
 use Rattle.division_rules.specs.RemainderRows.{LaterRows, TurnBefore}
 use Rattle.division_rules.specs.RemainderRowsWithin.{psi_within, beta_within, undivided_within, rows_from_within, remainder_rows_within}
-use Rattle.division_rules.specs.PolynomialRows.{IsPolynomialRow, ArePolynomialRows, AreRemainderRows, IsPolynomialMemory}
+use Rattle.division_rules.specs.PolynomialRows.{IsPolynomialRow, ArePolynomialRows, AreRemainderRows, IsPolynomialTurnBefore}
 use Rattle.division_rules.proofs.CanonicalViews.{canonical_operations}
 use Rattle.division_rules.proofs.Down.{down}
 use Rattle.division_rules.proofs.DownWithin.{terms-times_within, down-elimination_within, down-sparse_remainder_by_within, down-sparse_remainder_within, down-times_row_within, down-pseudo_remainder_by_within, down-pseudo_remainder_within, down-reduction_within, terms-power_of_within}
@@ -52,11 +52,11 @@ module _ (p n : ℕ) (many : 1 < p) (w : ℕ) where
   IsPolynomialRow-reduction_within chain f h are i e = if_row_canonical p n many (reduction_within (canonical_operations p n many) w (up_rows p n many chain are) (up p n many f i)) h (down-reduction_within p n many w (up_rows p n many chain are) (up p n many f i) ∙ ap₂ (reduction_within (list_operations p n) w) (down-up_rows p n many chain are) (down-up p n many f i) ∙ e)
 
   -- psi
-  pub IsPolynomial-psi_within : (m : TurnBefore (list_operations p n)) (x h : Polynomial) → IsPolynomialMemory p n m → IsPolynomial p n x → psi_within (list_operations p n) w m x ≡ Some h → IsPolynomial p n h
+  pub IsPolynomial-psi_within : (m : TurnBefore (list_operations p n)) (x h : Polynomial) → IsPolynomialTurnBefore p n m → IsPolynomial p n x → psi_within (list_operations p n) w m x ≡ Some h → IsPolynomial p n h
   IsPolynomial-psi_within m x h im ix e = if_canonical p n many (psi_within (canonical_operations p n many) w (up_memory p n many m im) (x, ix)) h (terms-psi_within p n many w (up_memory p n many m im) (x, ix) ∙ ap (λ y. psi_within (list_operations p n) w y x) (down-up_memory p n many m im) ∙ e)
 
   -- beta, for a canonical psi
-  pub IsPolynomial-beta_within : (m : TurnBefore (list_operations p n)) (x q : Polynomial) (d : ℕ) (h : Polynomial) → IsPolynomialMemory p n m → IsPolynomial p n x → IsPolynomial p n q → beta_within (list_operations p n) w m x q d ≡ Some h → IsPolynomial p n h
+  pub IsPolynomial-beta_within : (m : TurnBefore (list_operations p n)) (x q : Polynomial) (d : ℕ) (h : Polynomial) → IsPolynomialTurnBefore p n m → IsPolynomial p n x → IsPolynomial p n q → beta_within (list_operations p n) w m x q d ≡ Some h → IsPolynomial p n h
   IsPolynomial-beta_within m x q d h im ix iq e = if_canonical p n many (beta_within (canonical_operations p n many) w (up_memory p n many m im) (x, ix) (q, iq) d) h (terms-beta_within p n many w (up_memory p n many m im) (x, ix) (q, iq) d ∙ ap (λ y. beta_within (list_operations p n) w y x q d) (down-up_memory p n many m im) ∙ e)
 
   -- the row of a turn before its division
@@ -64,7 +64,7 @@ module _ (p n : ℕ) (many : 1 < p) (w : ℕ) where
   IsPolynomialRow-undivided_within v chain f g h are i j e = if_row_canonical p n many (undivided_within (canonical_operations p n many) w v (up_rows p n many chain are) (up p n many f i) (up p n many g j)) h (down-undivided_within p n many w v (up_rows p n many chain are) (up p n many f i) (up p n many g j) ∙ ap₂ (λ x y. undivided_within (list_operations p n) w v x y (down p n many (up p n many g j))) (down-up_rows p n many chain are) (down-up p n many f i) ∙ ap (undivided_within (list_operations p n) w v chain f) (down-up p n many g j) ∙ e)
 
   -- remainder rows
-  pub AreRemainderRows-rows_from_within : (v : ℕ) (chain : List (Row Polynomial)) (k : ℕ) (m : TurnBefore (list_operations p n)) (f g : Row Polynomial) (rows : LaterRows Polynomial) → ArePolynomialRows p n chain → IsPolynomialMemory p n m → IsPolynomialRow p n f → IsPolynomialRow p n g → rows_from_within (list_operations p n) w v chain k m f g ≡ Some rows → AreRemainderRows p n rows
+  pub AreRemainderRows-rows_from_within : (v : ℕ) (chain : List (Row Polynomial)) (k : ℕ) (m : TurnBefore (list_operations p n)) (f g : Row Polynomial) (rows : LaterRows Polynomial) → ArePolynomialRows p n chain → IsPolynomialTurnBefore p n m → IsPolynomialRow p n f → IsPolynomialRow p n g → rows_from_within (list_operations p n) w v chain k m f g ≡ Some rows → AreRemainderRows p n rows
   AreRemainderRows-rows_from_within v chain k m f g rows are im i j e = if_rows_canonical p n many (rows_from_within (canonical_operations p n many) w v (up_rows p n many chain are) k (up_memory p n many m im) (up p n many f i) (up p n many g j)) rows (down-rows_from_within p n many w v (up_rows p n many chain are) k (up_memory p n many m im) (up p n many f i) (up p n many g j) ∙ ap₂ (λ x y. rows_from_within (list_operations p n) w v x k y (down p n many (up p n many f i)) (down p n many (up p n many g j))) (down-up_rows p n many chain are) (down-up_memory p n many m im) ∙ ap₂ (rows_from_within (list_operations p n) w v chain k m) (down-up p n many f i) (down-up p n many g j) ∙ e)
 
   -- from the first two rows on

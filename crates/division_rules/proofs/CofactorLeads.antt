@@ -61,7 +61,7 @@ module _ {A : Type 0} (P : ViewedRing A) (w v : ℕ) (chain : List (Row A)) (bas
 
     -- a row whose first cofactor, times u, is that of the undivided row
     follows : (u : A) (h : Row A) → IsFreeNonzero P v u → HasCofactor h → u ⊗ cofactor h ≡ cofactor (undivided (operations P) v chain f g) → Follows f g u h
-    follows u h free has same = (has, record { degrees = parts.0; factors = multiple.1; initials = multiple.2; leads = parts.1 }, parts.2)
+    follows u h free has same = (has, record { degrees = parts.0; factors = multiple.1; initials = multiple.2; cofactor_lead = parts.1 }, parts.2)
       where
         e : ℕ
         e = degree v (cofactor g) + fall (operations P) v f g

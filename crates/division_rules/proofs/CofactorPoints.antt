@@ -29,7 +29,7 @@ module _ {A B : Type 0} (P : ViewedRing A) (E : Evaluation P B) (v : ℕ) where
   -- where no initial of the chain and no lead of the two rows is zero, a step keeps the lead of the
   -- first cofactor other than zero
   pub cofactor_lead_step : (chain : List (Row A)) → InitialsNotZero P E chain → (u : A) (f g h : Row A) → IsCofactorStep (operations P) v chain u f g h → LeadOfRowNotZero f → LeadOfRowNotZero g → CofactorLeadNotZero g → CofactorLeadNotZero h
-  cofactor_lead_step chain initials u f g h step hf hg hc z = right (ap E.val (sym step.leads) ∙ E.is_value.val-times u (lead (operations P) v (cofactor h)) ∙ ap (λ x. E.values.◌⊗◌ (E.val u) x) z ∙ times-nil E.values (E.val u))
+  cofactor_lead_step chain initials u f g h step hf hg hc z = right (ap E.val (sym step.cofactor_lead) ∙ E.is_value.val-times u (lead (operations P) v (cofactor h)) ∙ ap (λ x. E.values.◌⊗◌ (E.val u) x) z ∙ times-nil E.values (E.val u))
     where
       l : A
       l = power (operations P) (lead (operations P) v g.first) (fall (operations P) v f g)

@@ -3,7 +3,7 @@ use Rattle.std.proofs.Common.{◌≡◌, ◌≢◌, ℕ, zero, suc, ◌-◌, Opt
 use Rattle.polynomials.proofs.RingLaws.{times-nil, times_comm}
 use Rattle.division_rules.specs.Operations.{lead, power, sign}
 use Rattle.division_rules.specs.RemainderRows.{TurnBefore, psi, beta}
-use Rattle.division_rules.specs.Turns.{IsMemory}
+use Rattle.division_rules.specs.Turns.{IsTurnBefore}
 use Rattle.division_rules.proofs.Settings.{ViewedRing, operations}
 use Rattle.division_rules.proofs.Bounds.{product_not_nil, negative_not_nil, under-scale, under-factor}
 
@@ -60,7 +60,7 @@ module _ {A : Type 0} (P : ViewedRing A) where
   factor_free_nonzero v q b a e h = (quotient_not_nil q b a e h.0, under-factor P v 1 q b (factor_not_nil q b a e h.0) (subst (Under v 1) (sym e) h.1))
 
   -- psi
-  pub psi_free_nonzero : (w v : ℕ) (m : TurnBefore (operations P)) (l : A) → IsMemory P.ring P.views P.laws v m → IsFreeNonzero v l → IsFreeNonzero v (psi (operations P) w m l)
+  pub psi_free_nonzero : (w v : ℕ) (m : TurnBefore (operations P)) (l : A) → IsTurnBefore P.ring P.views P.laws v m → IsFreeNonzero v l → IsFreeNonzero v (psi (operations P) w m l)
   psi_free_nonzero w v None l memory h = negative_free_nonzero v one (one_free_nonzero v)
   psi_free_nonzero w v (Some m) l memory h = in_option (IsFreeNonzero v) (P.views.quotient w top low) top (λ q e. factor_free_nonzero v q low top (P.laws.quotient-sound w top low q e) top_is) top_is
     where

@@ -9,6 +9,7 @@ use Rattle.division_rules.specs.Operations.{lead, initial, power}
 use Rattle.division_rules.specs.Lists.{variable_or_zero, list_operations}
 use Rattle.division_rules.specs.Rows.{cross}
 use Rattle.division_rules.specs.Within.{and_then, times_within, power_of_within}
+use Rattle.division_rules.specs.ListWords.{WordsAreListWords}
 
 module _ (p n : ℕ) where
   -- the lead
@@ -47,3 +48,12 @@ module _ (p n : ℕ) where
         go : (z : Option Polynomial) → and_then z (λ x. times_within (list_operations p n) w x f) ≡ product_so_far p w f z
         go None = refl
         go (Some x) = refl
+
+-- the law
+pub words_are_list_words : WordsAreListWords
+words_are_list_words p n = record {
+  combined = λ cs gs. refl;
+  power = list_power_of p n;
+  power_within = list_power_within p n;
+  initial = list_initial p n;
+}

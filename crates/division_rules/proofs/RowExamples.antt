@@ -83,7 +83,7 @@ coprime_combination : IsCombinationOf o (x ∷ square_plus_four_a ∷ []) coprim
 coprime_combination = record { one_each = refl; identity = refl }
 
 coprime_steps : AreCofactorSteps o 9 1 [] 2 None coprime_second coprime_first (coprime_last ∷ []) None
-coprime_steps = (record { degrees = refl; factors = []; initials = tt; leads = refl }, tt)
+coprime_steps = (record { degrees = refl; factors = []; initials = tt; cofactor_lead = refl }, tt)
 
 -- the rows of x^2 + 4 and x + 4, over x + 4 and x^2 + 4: the zero row is 4 (x + 1) (x + 4) + (x^2 + 4)
 abbrev common_first : Row Polynomial
@@ -102,4 +102,4 @@ common_degrees : DegreesFall o 1 common_first [] (Some common_last)
 common_degrees = (omega arith, refl)
 
 common_steps : AreCofactorSteps o 9 1 [] 2 None common_second common_first [] (Some common_last)
-common_steps = (record { degrees = refl; factors = []; initials = tt; leads = refl }, refl)
+common_steps = (record { degrees = refl; factors = []; initials = tt; cofactor_lead = refl }, refl)

@@ -29,12 +29,12 @@ module _ {A : Type 0} (o : Operations A) where
         o.views.degree v (first_cofactor h) ≡ o.views.degree v (first_cofactor g) + fall o v f g
     pub factors : List A
     pub initials : AreInitials o chain factors
-    pub leads :
+    pub cofactor_lead :
         o.times u (lead o v (first_cofactor h))
         ≡ o.minus
-          (o.times (product_of_all o factors)
-           (o.times (lead o v f.first)
-            (o.times (power o (lead o v g.first) (fall o v f g)) (lead o v (first_cofactor g)))))
+        (o.times (product_of_all o factors)
+        (o.times (lead o v f.first)
+        (o.times (power o (lead o v g.first) (fall o v f g)) (lead o v (first_cofactor g)))))
 
   -- each row after f and g is such a step, and the degrees of the zero row's first cofactor and of
   -- the row before it have the sum total

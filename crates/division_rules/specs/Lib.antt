@@ -14,4 +14,5 @@ pub mod Cofactors
 pub mod Factors
 pub mod PolynomialRows
 pub mod Triangular
+pub mod ListWords
 pub mod Statements

@@ -18,5 +18,5 @@ abbrev pub AreRemainderRows : ℕ → ℕ → LaterRows Polynomial → Type 0
 AreRemainderRows p n rows = ArePolynomialRows p n rows.later × IfRow (IsPolynomialRow p n) rows.last
 
 -- the psi that is remembered of a turn is canonical
-abbrev pub IsPolynomialMemory : ℕ → ℕ → Option (Polynomial × ℕ) → Type 0
-IsPolynomialMemory p n m = IfSome m (λ x. IsPolynomial p n x.0)
+abbrev pub IsPolynomialTurnBefore : ℕ → ℕ → Option (Polynomial × ℕ) → Type 0
+IsPolynomialTurnBefore p n m = IfSome m (λ x. IsPolynomial p n x.0)

@@ -30,7 +30,7 @@ quotient_terms p u g (suc k) [] = []
 quotient_terms p u g (suc k) (t ∷ f) = elim (monomial_divides u.0 t.0) [
   | true ↦ term_over p t u
       ∷ quotient_terms p u g k
-        (difference_of p (t ∷ f) (product_of p (term_over p t u ∷ []) (u ∷ g)))
+      (difference_of p (t ∷ f) (product_of p (term_over p t u ∷ []) (u ∷ g)))
   | false ↦ []
 ]
 

@@ -26,7 +26,7 @@ QuotientIsExact =
     → IsPolynomial p n b
     → b ≢ []
     → (quotient_within p w a b ≡ Some q)
-      ↔ (IsPolynomial p n q × (product_of p q b ≡ a) × (fits w q b ≡ true))
+    ↔ (IsPolynomial p n q × (product_of p q b ≡ a) × (fits w q b ≡ true))
 
 -- and there is none exactly where there is no such polynomial
 abbrev pub QuotientIsNone : Type 0
@@ -37,7 +37,7 @@ QuotientIsNone =
     → IsPolynomial p n b
     → b ≢ []
     → (quotient_within p w a b ≡ None)
-      ↔ ((q : Polynomial) → IsPolynomial p n q → product_of p q b ≡ a → fits w q b ≢ true)
+    ↔ ((q : Polynomial) → IsPolynomial p n q → product_of p q b ≡ a → fits w q b ≢ true)
 
 -- nothing has a quotient by 0
 abbrev pub NoQuotientByZero : Type 0
@@ -122,28 +122,28 @@ pub record AreUnlimited (p n w : ℕ) : Type 0 where
   pub elimination :
       (v : ℕ) (f g : Row Polynomial)
       → IfSome (elimination_within (list_operations p n) w v f g) (λ h.
-        h ≡ elimination (list_operations p n) v f g)
+      h ≡ elimination (list_operations p n) v f g)
   pub sparse_remainder :
       (v : ℕ) (f g : Row Polynomial)
       → IfSome (sparse_remainder_within (list_operations p n) w v f g) (λ h.
-        h ≡ sparse_remainder (list_operations p n) v f g)
+      h ≡ sparse_remainder (list_operations p n) v f g)
   pub pseudo_remainder :
       (v : ℕ) (f g : Row Polynomial)
       → IfSome (pseudo_remainder_within (list_operations p n) w v f g) (λ h.
-        h ≡ pseudo_remainder (list_operations p n) v f g)
+      h ≡ pseudo_remainder (list_operations p n) v f g)
   pub reduction :
       (chain : List (Row Polynomial)) (f : Row Polynomial)
       → IfSome (reduction_within (list_operations p n) w chain f) (λ h.
-        h ≡ reduction (list_operations p n) chain f)
+      h ≡ reduction (list_operations p n) chain f)
   pub power :
       (f : Polynomial) (e : ℕ)
       → IfSome (power_of_within (list_operations p n) w f e) (λ h.
-        h ≡ power (list_operations p n) f e)
+      h ≡ power (list_operations p n) f e)
   -- with quotients of the same width on both sides
   pub remainder_rows :
       (v : ℕ) (chain : List (Row Polynomial)) (t c : Row Polynomial)
       → IfSome (remainder_rows_within (list_operations p n) w v chain t c) (λ rows.
-        rows ≡ remainder_rows (list_operations p n) w v chain t c)
+      rows ≡ remainder_rows (list_operations p n) w v chain t c)
 
 -- for every modulus, number of variables and width
 abbrev pub WithinIsUnlimited : Type 0

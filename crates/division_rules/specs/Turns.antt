@@ -41,9 +41,9 @@ module _ {A : Type 0} (r : Ring A) (s : Views A) (laws : Laws A r s) where
     pub free : IsFree r s laws v chain
 
   -- psi of the turn before is not 0, and has no v
-  abbrev pub IsMemory : ℕ → Option (A × ℕ) → Type 0
-  IsMemory v None = Unit {0}
-  IsMemory v (Some m) = (m.0 ≢ r.nil) × laws.Under v 1 m.0
+  abbrev pub IsTurnBefore : ℕ → Option (A × ℕ) → Type 0
+  IsTurnBefore v None = Unit {0}
+  IsTurnBefore v (Some m) = (m.0 ≢ r.nil) × laws.Under v 1 m.0
 
   -- g follows f among the rows in v: neither is 0, the degree falls, and g is reduced by the chain
   pub record IsTurn (v : ℕ) (chain : List (Row A)) (m : Option (A × ℕ)) (f g : Row A) : Type 0 where
@@ -51,4 +51,4 @@ module _ {A : Type 0} (r : Ring A) (s : Views A) (laws : Laws A r s) where
     pub after : g.first ≢ r.nil
     pub falls : s.degree v g.first < s.degree v f.first
     pub reduced : IsReduced r s laws chain g.first
-    pub memory : IsMemory v m
+    pub memory : IsTurnBefore v m

@@ -37,7 +37,7 @@ module _ {A : Type 0} (o : Operations A) (w : ℕ) where
       row_within
       (cross_within (lead o v g.first) (shifted_lead o v f.first g.first) f.first g.first)
       (cross_all_within (lead o v g.first) (shifted_lead o v f.first g.first) f.cofactors
-       g.cofactors)
+      g.cofactors)
 
   -- at most k eliminations by g, until none is left
   abbrev pub sparse_remainder_by_within : ℕ → Row A → ℕ → Row A → Option (Row A)

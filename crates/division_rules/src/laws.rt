@@ -1,3 +1,4 @@
+ghost use Rattle.division_rules.specs.ListWords.{WordsAreListWords};
 ghost use Rattle.division_rules.specs.Statements.{QuotientIsExact, QuotientIsNone, NoQuotientByZero, FactorsAreDividedAway, LastFactorIsGone, StepsKeepCanonical, ReductionIsReduced, WithinIsUnlimited};
 
 /// The quotient within a width is the factor that fits it.
@@ -38,4 +39,9 @@ pub fn reduction_is_reduced()
 /// A step within a width has the result of the step without a limit.
 pub fn within_is_unlimited()
     ensures { WithinIsUnlimited }
+{}
+
+/// At lists of terms the words of division are those of polynomials.
+pub fn words_are_list_words()
+    ensures { WordsAreListWords }
 {}

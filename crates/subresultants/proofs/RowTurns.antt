@@ -23,7 +23,7 @@ use Rattle.division_rules.proofs.Up.{down_canonical}
 use Rattle.division_rules.proofs.Turns.{next_turn}
 use Rattle.division_rules.proofs.WithinLimits.{Gives, gives-then, gives-choice, gives-undivided, gives-psi, gives-beta}
 use Rattle.pseudo_division.specs.FieldOperations.{operations}
-use Rattle.subresultants.specs.Turns.{IsMemoryOver, divisors_within, divided_turn, turn_within}
+use Rattle.subresultants.specs.Turns.{IsTurnBeforeOver, divisors_within, divided_turn, turn_within}
 use Rattle.subresultants.specs.declared.turn.NextRow.{NextRow}
 use Rattle.subresultants.specs.declared.turn.NextRow.TheVariants.{Zero, Later}
 use Rattle.subresultants.proofs.CofactorCounts.{HasCount, count-next_row}
@@ -111,10 +111,10 @@ module _ (p v count : ℕ) (chain : List (Row Polynomial)) (m : TurnBefore (oper
   second_count = ap (λ (x : Row Polynomial). length x.cofactors) (sym t.second_is) ∙ length-map_by (λ (x : CanonicalPolynomial p VARS). x.0) t.second.cofactors ∙ t.canonical.second_count
 
   -- psi is canonical and isn't 0
-  pub memory_over : IsMemoryOver p m
-  memory_over = subst (IsMemoryOver p) t.memory_is (go t.memory t.canonical.turn)
+  pub memory_over : IsTurnBeforeOver p m
+  memory_over = subst (IsTurnBeforeOver p) t.memory_is (go t.memory t.canonical.turn)
     where
-      go : (memory : TurnBefore (canonical_operations p VARS t.prime.many)) → IsTurn (polynomial_setting p VARS t.prime).ring (polynomial_setting p VARS t.prime).views (polynomial_setting p VARS t.prime).laws v t.low memory t.first t.second → IsMemoryOver p (down_memory p VARS t.prime.many memory)
+      go : (memory : TurnBefore (canonical_operations p VARS t.prime.many)) → IsTurn (polynomial_setting p VARS t.prime).ring (polynomial_setting p VARS t.prime).views (polynomial_setting p VARS t.prime).laws v t.low memory t.first t.second → IsTurnBeforeOver p (down_memory p VARS t.prime.many memory)
       go None turn = tt
       go (Some x) turn = (x.0.1, λ none. turn.memory.0 (canonical_path p VARS _ _ none))
 

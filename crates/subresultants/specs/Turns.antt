@@ -13,9 +13,9 @@ use Rattle.subresultants.specs.declared.turn.NextRow.{NextRow}
 use Rattle.subresultants.specs.declared.turn.NextRow.TheVariants.{Zero, Later}
 
 -- psi of the turn before is canonical and isn't 0
-abbrev pub IsMemoryOver : (p : ℕ) → TurnBefore (operations p) → Type 0
-IsMemoryOver p None = Unit {0}
-IsMemoryOver p (Some m) = IsPolynomial p VARS m.0 × (m.0 ≢ [])
+abbrev pub IsTurnBeforeOver : (p : ℕ) → TurnBefore (operations p) → Type 0
+IsTurnBeforeOver p None = Unit {0}
+IsTurnBeforeOver p (Some m) = IsPolynomial p VARS m.0 × (m.0 ≢ [])
 
 -- psi and beta of the turn in which the degree has fallen by d from the row f
 abbrev pub divisors_within :

@@ -6,7 +6,7 @@ ghost use Rattle.division_rules.specs.Quotients.{quotient_within};
 ghost use Rattle.division_rules.specs.Within.{and_then, times_within};
 ghost use Rattle.division_rules.specs.RemainderRowsWithin.{later_psi_within, later_beta_within};
 ghost use Rattle.pseudo_division.specs.FieldOperations.{operations};
-ghost use Rattle.subresultants.specs.Turns.{IsMemoryOver, divisors_within};
+ghost use Rattle.subresultants.specs.Turns.{IsTurnBeforeOver, divisors_within};
 
 use crate::divided::is_one;
 use mono_words::VARS;
@@ -31,7 +31,7 @@ pub fn divisors(
     requires variable { v < VARS }
     requires row { IsPolynomialRow w.now.field VARS f.now }
     requires some { f.now.first ≢ [] }
-    requires memory { IsMemoryOver w.now.field memory.now }
+    requires memory { IsTurnBeforeOver w.now.field memory.now }
     ensures value { IfOk result (λ r.
         r ≡ divisors_within w.now.field w.now.width v memory.now f.now fall) }
     ensures over { IfOk result (λ r. IfSome r (λ d. IsPolynomial w.now.field VARS d.1)) }

@@ -6,7 +6,7 @@ ghost use Rattle.division_rules.specs.RemainderRowsWithin.{undivided_within};
 ghost use Rattle.division_rules.specs.Triangular.{AreTriangular};
 ghost use Rattle.division_rules.specs.Within.{reduction_within};
 ghost use Rattle.pseudo_division.specs.FieldOperations.{operations};
-ghost use Rattle.subresultants.specs.Turns.{IsMemoryOver, divided_turn, turn_within};
+ghost use Rattle.subresultants.specs.Turns.{IsTurnBeforeOver, divided_turn, turn_within};
 
 use crate::divided::divided;
 use crate::divisors::{TurnBefore, divisors};
@@ -44,7 +44,7 @@ pub fn turn_after(
     requires occurs { 1 ≤ degree_in v g.now.first }
     requires cofactors { length f.now.cofactors ≡ length g.now.cofactors }
     requires chain_cofactors { EachRow (λ t. length t.cofactors ≡ length f.now.cofactors) chain.now }
-    requires memory { IsMemoryOver w.now.field memory.now }
+    requires memory { IsTurnBeforeOver w.now.field memory.now }
     ensures { IfOk result (λ r.
         r ≡ turn_within w.now.field w.now.width v chain.now memory.now f.now g.now) }
 {
@@ -113,7 +113,7 @@ fn divided_turn(
     requires some { f.now.first ≢ [] }
     requires degrees { degree_in v g.now.first ≤ degree_in v f.now.first }
     requires row { IsPolynomialRow w.now.field VARS row }
-    requires memory { IsMemoryOver w.now.field memory.now }
+    requires memory { IsTurnBeforeOver w.now.field memory.now }
     ensures { IfOk result (λ r.
         r ≡ divided_turn w.now.field w.now.width v memory.now f.now g.now row) }
 {
