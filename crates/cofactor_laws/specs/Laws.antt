@@ -24,8 +24,8 @@ CofactorsGrowByFalls =
     → ArePolynomials p n (c ∷ t ∷ chain)
     → StartRemainderRows v chain t c
     → AreCofactorSteps (list_operations p n) w v (rows_of_chain p n chain) (degree_in v t) None
-      (row_of_t n t chain) (row_of_c n c chain) (rows_with_cofactors p n w v t c chain).later
-      (rows_with_cofactors p n w v t c chain).last
+    (row_of_t n t chain) (row_of_c n c chain) (rows_with_cofactors p n w v t c chain).later
+    (rows_with_cofactors p n w v t c chain).last
 
 -- each row with cofactors, the zero row too, is the combination of its cofactors with c, t and the
 -- chain
@@ -36,7 +36,7 @@ RowsWithCofactorsAreCombinations =
     → ArePolynomials p n (c ∷ t ∷ chain)
     → StartRemainderRows v chain t c
     → AreRowsOver p n (c ∷ t ∷ chain) (rows_with_cofactors p n w v t c chain).later
-      × IfRow (IsRowOver p n (c ∷ t ∷ chain)) (rows_with_cofactors p n w v t c chain).last
+    × IfRow (IsRowOver p n (c ∷ t ∷ chain)) (rows_with_cofactors p n w v t c chain).last
 
 -- the degrees of the zero row's cofactor of c and of the row before it have the sum that of t
 abbrev pub LastCofactorHasDegree : Type 0
@@ -44,9 +44,9 @@ LastCofactorHasDegree =
     (p n w v : ℕ) (t c : Polynomial) (chain : List Polynomial) (z : Row Polynomial)
     → EndWithZeroRow p n w v t c chain z
     → degree_in v (first_cofactor (list_operations p n) z)
-      + degree_in v
-        (last_row (row_of_c n c chain) (rows_with_cofactors p n w v t c chain).later).first
-      ≡ degree_in v t
+    + degree_in v
+    (last_row (row_of_c n c chain) (rows_with_cofactors p n w v t c chain).later).first
+    ≡ degree_in v t
 
 -- where no initial of the chain is zero, nor the lead of t, the lead of the zero row's cofactor of
 -- c is zero only where the lead of c or of a later row is

@@ -59,11 +59,6 @@ module _ {A : Type 0} (P : ViewedRing A) where
   under-scale v zero u f free h = under-nil_at v 0 (u ⊗ f) (ap (λ w. u ⊗ w) (P.laws.under-none v f h) ∙ times-nil P.ring u)
   under-scale v (suc d) u f free h = P.laws.under-more v (suc (0 + d)) (suc d) (u ⊗ f) (omega arith) (P.laws.under-mul v 0 d u f free h)
 
-  -- bounds add up in products
-  pub under-product : (v d e : ℕ) (f g : A) → Under v d f → Under v (suc e) g → Under v (d + e) (f ⊗ g)
-  under-product v zero e f g hf hg = under-nil_at v (0 + e) (f ⊗ g) (ap (λ w. w ⊗ g) (P.laws.under-none v f hf) ∙ nil-times P.ring g)
-  under-product v (suc d) e f g hf hg = P.laws.under-more v (suc (d + e)) (suc d + e) (f ⊗ g) (omega arith) (P.laws.under-mul v d e f g hf hg)
-
   -- l f - m g is under a bound of both products
   pub under-cross : (v d : ℕ) (l m f g : A) → Under v d (l ⊗ f) → Under v d (m ⊗ g) → Under v d (cross (operations P) l m f g)
   under-cross v d l m f g hf hg = P.laws.under-add v d (l ⊗ f) (neg (m ⊗ g)) hf (P.laws.under-neg v d (m ⊗ g) hg)

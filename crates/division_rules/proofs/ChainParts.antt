@@ -16,28 +16,10 @@ EachRow-append Q (t ∷ c) d h =
 module _ {A : Type 0} (P : ViewedRing A) where
   open P.views use {degree, main}
 
-  -- the first and the last members of a chain are chains
-  pub IsChain-append : (c d : List (Row A)) → IsChain P.ring P.views P.laws (c ++ d) → IsChain P.ring P.views P.laws c × IsChain P.ring P.views P.laws d
-  IsChain-append [] d h = (tt, h)
-  IsChain-append (t ∷ c) d h =
-      let rest = IsChain-append c d h.2 in
-      ((h.0, (EachRow-append (IsBelow P.ring P.views P.laws t) c d h.1).0, rest.0), rest.1)
-
   -- members before t lie below t
   pub members_below : (c : List (Row A)) (t : Row A) (d : List (Row A)) → IsChain P.ring P.views P.laws (c ++ t ∷ d) → EachRow (λ u. IsBelow P.ring P.views P.laws u t) c
   members_below [] t d h = tt
   members_below (u ∷ c) t d h = ((EachRow-append (IsBelow P.ring P.views P.laws u) c (t ∷ d) h.1).1.0, members_below c t d h.2)
-
-  -- so they are a chain below the main variable of t
-  pub base_of_chain : (c : List (Row A)) (t : Row A) (d : List (Row A)) → IsChain P.ring P.views P.laws (c ++ t ∷ d) → IsBase P.ring P.views P.laws (main t.first) c
-  base_of_chain c t d h = record {
-    increasing = (IsChain-append c (t ∷ d) h).0;
-    apart = EachRow-map (λ u. IsBelow P.ring P.views P.laws u t) (λ u. main t.first ≢ main u.first) c (λ u below. different (main u.first) below.0) (members_below c t d h);
-    free = EachRow-map (λ u. IsBelow P.ring P.views P.laws u t) (λ u. P.laws.Under (main t.first) 1 u.first) c (λ u below. below.1) (members_below c t d h);
-  }
-    where
-      different : (x : ℕ) → x < main t.first → main t.first ≢ x
-      different x less same = omega (arith, less, same)
 
   -- what has v is not 0
   pub not_nil_degree : (v : ℕ) (f : A) → 1 ≤ degree v f → f ≢ P.ring.nil

@@ -106,10 +106,6 @@ module _ (p n : ℕ) (prime : IsPrime p) (u : Term) (g : Polynomial) (j : IsPoly
     pub division_fits : (ts : Polynomial) → IsDivision p n u g f ts [] → fits w ts (u ∷ g) ≡ true → quotient_within p w f (u ∷ g) ≡ Some ts
     division_fits ts d fit = quotient_within_found p n w f (u ∷ g) ts prime j d.terms_canonical (λ e. cc) (division_ends ts d) fit
 
-    -- and else there is none
-    pub division_unfit : (ts : Polynomial) → IsDivision p n u g f ts [] → fits w ts (u ∷ g) ≡ false → quotient_within p w f (u ∷ g) ≡ None
-    division_unfit ts d unfit = quotient_within_unfit p n w f (u ∷ g) prime i j (λ e. cc) ts d.terms_canonical (division_ends ts d) unfit
-
     -- each quotient begins with the terms so far
     quotient_begins : (ts rest q : Polynomial) → IsDivision p n u g f ts rest → quotient_within p w f (u ∷ g) ≡ Some q → (k : Polynomial) × IsPolynomial p n k × (q ≡ ts ++ k) × (product_of p k (u ∷ g) ≡ rest)
     quotient_begins ts rest q d e = d.prefix q (IsPolynomial-quotient_within p n w f (u ∷ g) q positive i j e) (quotient_within_exact p w f (u ∷ g) q e)

@@ -127,8 +127,3 @@ module _ (p n : ℕ) (many : 1 < p) where
   -- the remainder rows of t and c
   pub down-remainder_rows : (w v : ℕ) (chain : List (Row (CanonicalPolynomial p n))) (t c : Row (CanonicalPolynomial p n)) → down_rows (remainder_rows (canonical_operations p n many) w v chain t c) ≡ remainder_rows (list_operations p n) w v (down_all p n many chain) (down p n many t) (down p n many c)
   down-remainder_rows w v chain t c = down-rows_from w v chain (suc (degree_in v c.first.0)) None t c
-
-  -- their leads
-  pub terms-leads : (v : ℕ) (rows : List (Row (CanonicalPolynomial p n))) → terms_all p n many (leads (canonical_operations p n many) v rows) ≡ leads (list_operations p n) v (down_all p n many rows)
-  terms-leads v [] = refl
-  terms-leads v (h ∷ rows) = ap (λ xs. lead (list_operations p n) v h.first.0 ∷ xs) (terms-leads v rows)

@@ -40,13 +40,6 @@ module _ (p n w : ℕ) (prime : IsPrime p) (bs : List Polynomial) (are : ArePoly
       multiplied : product_of p g (product_of p b (product_of_all (list_operations p n) h.0)) ≡ f
       multiplied = ap (λ x. x.0) (factor_last (polynomial_ring p n prime.many) (g, ig) (b, ib) (product_of_all (list_operations p n) h.0, product)) ∙ ap (λ x. product_of p x b) h.2 ∙ quotient_within_exact p w f b q e
 
-  -- f is its form without a member times that member as often as need be
-  pub without_factor_product : (b f : Polynomial) (k : ℕ) → Contains bs b → IsPolynomial p n f → IsProductByMembers p n bs f (without_factor p w b k f)
-  without_factor_product b f k member i = (without_factor_relates p n w prime b ib (λ x y. IsPolynomial p n y × IsProductByMembers p n bs x y) (λ x j. (j, product_by_none x j)) (λ x q y j e h. (h.0, product_by_one_more b x q y member h.0 e h.1)) k f i).1
-    where
-      ib : IsPolynomial p n b
-      ib = IsPolynomial-member p n bs b are member
-
   -- f is its form without the members times a product of members
   pub without_factors_product : (f : Polynomial) → IsPolynomial p n f → IsProductByMembers p n bs f (without_factors p w bs f)
   without_factors_product f i = (without_factors_relates p n w prime bs (λ x y. IsPolynomial p n y × IsProductByMembers p n bs x y) (λ x j. (j, product_by_none x j)) (λ b x q y member c ib j e h. (h.0, product_by_one_more b x q y member h.0 e h.1)) are f i).1

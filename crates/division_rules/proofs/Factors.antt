@@ -89,22 +89,6 @@ module _ (p n w : ℕ) (prime : IsPrime p) where
   pub without_factors_zero : (bs : List Polynomial) (f : Polynomial) → ArePolynomials p n bs → IsPolynomial p n f → f ≡ [] → without_factors p w bs f ≡ []
   without_factors_zero bs f are i = without_factors_relates bs (λ x y. x ≡ [] → y ≡ []) (λ x j h. h) (λ b x q y m c ib j e h none. h (quotient_within_zero p n w x b q prime j ib e none)) are f i
 
-  -- no degree rises
-  pub degree_in-without_factor : (b f : Polynomial) (k v : ℕ) → IsPolynomial p n b → IsPolynomial p n f → degree_in v (without_factor p w b k f) ≤ degree_in v f
-  degree_in-without_factor b f k v ib i = without_factor_relates b ib (λ x y. degree_in v y ≤ degree_in v x) (λ x j. omega arith) (λ x q y j e h. le_trans h (quotient_within_degree_smaller p n w x b q prime j ib e v)) k f i
-
   -- nor does one without a list of factors
   pub degree_in-without_factors : (bs : List Polynomial) (f : Polynomial) (v : ℕ) → ArePolynomials p n bs → IsPolynomial p n f → degree_in v (without_factors p w bs f) ≤ degree_in v f
   degree_in-without_factors bs f v are i = without_factors_relates bs (λ x y. degree_in v y ≤ degree_in v x) (λ x j. omega arith) (λ b x q y m c ib j e h. le_trans h (quotient_within_degree_smaller p n w x b q prime j ib e v)) are f i
-
-  -- so the result is without each variable that f is without
-  pub without_factor_free : (b f : Polynomial) (k v : ℕ) → IsPolynomial p n b → IsPolynomial p n f → IsFreeOf v f → IsFreeOf v (without_factor p w b k f)
-  without_factor_free b f k v ib i free =
-      let smaller = degree_in-without_factor b f k v ib i in
-      omega arith
-
-  -- also without a list of factors
-  pub without_factors_free : (bs : List Polynomial) (f : Polynomial) (v : ℕ) → ArePolynomials p n bs → IsPolynomial p n f → IsFreeOf v f → IsFreeOf v (without_factors p w bs f)
-  without_factors_free bs f v are i free =
-      let smaller = degree_in-without_factors bs f v are i in
-      omega arith

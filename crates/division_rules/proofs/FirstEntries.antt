@@ -19,10 +19,6 @@ first_of_choice true f g x y hf hg = hf
 first_of_choice false f g x y hf hg = hg
 
 module _ {A : Type 0} (o : Operations A) where
-  -- an elimination
-  pub first-elimination : (v : ℕ) (f g : Row A) → first_alone (elimination o v f g) ≡ elimination o v (first_alone f) (first_alone g)
-  first-elimination v f g = refl
-
   -- the sparse remainder
   pub first-sparse_remainder_by : (v : ℕ) (g : Row A) (k : ℕ) (f : Row A) → first_alone (sparse_remainder_by o v g k f) ≡ sparse_remainder_by o v (first_alone g) k (first_alone f)
   first-sparse_remainder_by v g zero f = refl
@@ -48,7 +44,3 @@ module _ {A : Type 0} (o : Operations A) where
   pub first-reduction : (chain : List (Row A)) (f : Row A) → first_alone (reduction o chain f) ≡ reduction o (firsts_alone chain) (first_alone f)
   first-reduction [] f = refl
   first-reduction (t ∷ chain) f = first-sparse_remainder (o.views.main t.first) (reduction o chain f) t ∙ ap (λ h. sparse_remainder o (o.views.main t.first) h (first_alone t)) (first-reduction chain f)
-
-  -- the row before its division; the division itself looks at all entries
-  pub first-undivided : (v : ℕ) (chain : List (Row A)) (f g : Row A) → first_alone (undivided o v chain f g) ≡ undivided o v (firsts_alone chain) (first_alone f) (first_alone g)
-  first-undivided v chain f g = first-reduction chain (pseudo_remainder o v f g) ∙ ap (reduction o (firsts_alone chain)) (first-pseudo_remainder v f g)

@@ -75,12 +75,6 @@ module _ {A : Type 0} (P : ViewedRing A) where
       omega (arith, small)
 
   module _ (w v : ℕ) (c t : A) (chain : List A) (base : IsBase P.ring P.views P.laws v (plains chain)) (turn : IsTurn P.ring P.views P.laws v (plains chain) None (plain t) (plain c)) where
-    -- each row is the combination of its cofactors with c, t and the chain
-    pub generator_rows_combinations : EachRow (IsCombinationOf (operations P) (c ∷ t ∷ chain)) (remainder_rows (operations P) w v (unit_rows (operations P) 2 chain) (row_of_second c t chain) (row_of_first c t chain)).later × IfRow (IsCombinationOf (operations P) (c ∷ t ∷ chain)) (remainder_rows (operations P) w v (unit_rows (operations P) 2 chain) (row_of_second c t chain) (row_of_first c t chain)).last
-    generator_rows_combinations =
-        let each = combination-unit_rows P [] (c ∷ t ∷ chain) in
-        rows_combinations P w v (unit_rows (operations P) 2 chain) (IsBase-unit_rows v 2 chain base) (c ∷ t ∷ chain) each.1.1 (suc (degree v c)) None (row_of_second c t chain) (row_of_first c t chain) (IsTurn-unit_rows v 2 chain (row_of_second c t chain) (row_of_first c t chain) turn) each.1.0 each.0
-
     -- the cofactors of c have the degrees and the leads that the steps say
     pub generator_rows_steps : AreCofactorSteps (operations P) w v (unit_rows (operations P) 2 chain) (degree v t) None (row_of_second c t chain) (row_of_first c t chain) (remainder_rows (operations P) w v (unit_rows (operations P) 2 chain) (row_of_second c t chain) (row_of_first c t chain)).later (remainder_rows (operations P) w v (unit_rows (operations P) 2 chain) (row_of_second c t chain) (row_of_first c t chain)).last
     generator_rows_steps = are_cofactor_steps P w v (unit_rows (operations P) 2 chain) (IsBase-unit_rows v 2 chain base) (unit_rows-lack_first 1 chain) (suc (degree v c)) (degree v t) None (row_of_second c t chain) (row_of_first c t chain) (IsTurn-unit_rows v 2 chain (row_of_second c t chain) (row_of_first c t chain) turn) (record { has_before = omega arith; has_after = omega arith; after_not_nil = P.laws.one_not_nil; below = P.laws.under-nil v (degree v one) }) (omega (arith, degree-one v))

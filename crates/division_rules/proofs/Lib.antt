@@ -35,7 +35,6 @@ pub mod DivisionSteps
 pub mod Factors
 pub mod FactorProducts
 pub mod FactorBounds
-pub mod FactorTurns
 pub mod ListWords
 pub mod CanonicalViews
 pub mod ListLaws

@@ -28,14 +28,6 @@ not_zero_by_test (t ∷ f) e = λ none. cc
 pub one_of_not_zero : (n : ℕ) → one_of n ≢ []
 one_of_not_zero n e = cc
 
--- the main variable occurs in what isn't constant
-pub main_occurs : (f : Polynomial) → is_constant f ≡ false → 1 ≤ degree_in (variable_or_zero (main_var f)) f
-main_occurs f varies = go (main_var f) refl varies
-  where
-    go : (o : Option ℕ) → main_var f ≡ o → is_no_variable o ≡ false → 1 ≤ degree_in (variable_or_zero o) f
-    go None e h = cc
-    go (Some v) e h = degree_in_main_var v f e
-
 -- and no greater variable does
 pub free_above_main : (f : Polynomial) (x : ℕ) → variable_or_zero (main_var f) < x → ExponentsBelow x 1 f
 free_above_main f x less = (ExponentsBelow-one x f).1 (go (main_var f) refl less)

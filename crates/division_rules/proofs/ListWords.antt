@@ -12,10 +12,6 @@ use Rattle.division_rules.specs.Within.{and_then, times_within, power_of_within}
 use Rattle.division_rules.specs.ListWords.{WordsAreListWords}
 
 module _ (p n : ℕ) where
-  -- the lead
-  pub list_lead : (v : ℕ) (f : Polynomial) → lead (list_operations p n) v f ≡ lead_in v f
-  list_lead v f = refl
-
   -- the initial, which for a constant is the constant
   pub list_initial : (f : Polynomial) → initial (list_operations p n) f ≡ initial_of f
   list_initial f = go (main_var f) refl
@@ -24,10 +20,6 @@ module _ (p n : ℕ) where
       go None e = lead_in_itself 0 f (free_without_main_var f e 0)
       go (Some v) e = refl
 
-  -- l f - m g
-  pub list_cross : (l m f g : Polynomial) → cross (list_operations p n) l m f g ≡ difference_of p (product_of p l f) (product_of p m g)
-  list_cross l m f g = refl
-
   -- powers
   pub list_power_of : (f : Polynomial) (e : ℕ) → power (list_operations p n) f e ≡ list_power p n f e
   list_power_of f zero = refl
@@ -35,10 +27,6 @@ module _ (p n : ℕ) where
   list_power_of f (suc (suc e)) = ap (λ x. product_of p x f) (list_power_of f (suc e))
 
   module _ (w : ℕ) where
-    -- products within a width
-    pub list_times_within : (f g : Polynomial) → times_within (list_operations p n) w f g ≡ product_within p w f g
-    list_times_within f g = refl
-
     -- powers within a width
     pub list_power_within : (f : Polynomial) (e : ℕ) → power_of_within (list_operations p n) w f e ≡ power_within p n w f e
     list_power_within f zero = refl

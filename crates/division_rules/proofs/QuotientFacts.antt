@@ -47,9 +47,3 @@ module _ (p n w : ℕ) (f g q : Polynomial) (prime : IsPrime p) (i : IsPolynomia
         let adds = quotient_within_degree p n w f g q prime i j quotient some v in
         omega arith
   ]
-
-  -- a quotient is without each variable that the dividend is without
-  pub quotient_within_free : (v : ℕ) → IsFreeOf v f → IsFreeOf v q
-  quotient_within_free v free =
-      let smaller = quotient_within_degree_smaller v in
-      omega arith

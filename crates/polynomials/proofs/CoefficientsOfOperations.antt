@@ -1,14 +1,14 @@
 -- The coefficients of sums, negatives and products in one variable.
-use Rattle.std.proofs.Common.{◌≡◌, ℕ, ◌+◌, ◌-◌, ◌<◌, ◌≤◌, Bool, true, false, cond, eqb, ◌&&◌, List, [], ◌∷◌, ◌++◌, map, length, set, refl, sym, ap, ap₂, ◌∙◌, arith}
+use Rattle.std.proofs.Common.{◌≡◌, ℕ, ◌+◌, ◌<◌, ◌≤◌, Bool, true, false, cond, eqb, ◌&&◌, List, [], ◌∷◌, ◌++◌, length, set, refl, sym, ap, ap₂, ◌∙◌, arith}
 use Rattle.std.proofs.lemmas.Bool.Decides.{nat_tests}
 use Rattle.polynomials.specs.Monomials.{Monomial, exponent_of, monomial_product}
-use Rattle.polynomials.specs.Polynomials.{Term, term, Polynomial, IsPolynomial, collected, sum_of, product_of, negative_of, difference_of, scaled, opposite_term, scaled_term}
+use Rattle.polynomials.specs.Polynomials.{Term, term, Polynomial, IsPolynomial, collected, sum_of, product_of}
 use Rattle.polynomials.specs.Views.{coefficient_in}
 use Rattle.polynomials.specs.Rings.{Ring, weighted_sum}
 use Rattle.polynomials.proofs.WeightedSums.{weighted_sum-each}
 use Rattle.polynomials.proofs.SumsOfOperations.{weighted_sum-product_of}
 use Rattle.polynomials.proofs.Monomialwise.{EachMonomial, EachMonomial-append, EachMonomial-implied, HaveLength-from_IsPolynomial}
-use Rattle.polynomials.proofs.Canonical.{IsPolynomial-product_of, IsPolynomial-negative_of}
+use Rattle.polynomials.proofs.Canonical.{IsPolynomial-product_of}
 use Rattle.polynomials.proofs.Residues.{Residue, residues, residues_characteristic}
 use Rattle.polynomials.proofs.SamePolynomials.{SameSums-from_one, same_from_sums}
 use Rattle.polynomials.proofs.Exponents.{exponent_of-product, set-monomial_product}
@@ -18,34 +18,16 @@ append-cond : {X : Type 0} (b : Bool) (x : X) (f g : List X) → cond b (x ∷ f
 append-cond true x f g = refl
 append-cond false x f g = refl
 
-map-cond : {X Y : Type 0} (F : X → Y) (b : Bool) (x : X) (f : List X) → map F (cond b (x ∷ f) f) ≡ cond b (F x ∷ map F f) (map F f)
-map-cond F true x f = refl
-map-cond F false x f = refl
-
 module _ (v k : ℕ) where
   -- of lists one after the other
   pub coefficient_in-append : (f g : List Term) → coefficient_in v k (f ++ g) ≡ coefficient_in v k f ++ coefficient_in v k g
   coefficient_in-append [] g = refl
   coefficient_in-append (t ∷ f) g = ap (λ z. cond (eqb (exponent_of v t.0) k) (term (set t.0 v 0) t.1 ∷ z) z) (coefficient_in-append f g) ∙ sym (append-cond (eqb (exponent_of v t.0) k) (term (set t.0 v 0) t.1) (coefficient_in v k f) (coefficient_in v k g))
 
-  -- of the negative
-  pub coefficient_in-negative_of : (p : ℕ) (f : Polynomial) → coefficient_in v k (negative_of p f) ≡ negative_of p (coefficient_in v k f)
-  coefficient_in-negative_of p [] = refl
-  coefficient_in-negative_of p (t ∷ f) = ap (λ z. cond (eqb (exponent_of v t.0) k) (term (set t.0 v 0) (p - t.1) ∷ z) z) (coefficient_in-negative_of p f) ∙ sym (map-cond (opposite_term p) (eqb (exponent_of v t.0) k) (term (set t.0 v 0) t.1) (coefficient_in v k f))
-
-  -- of a residue times f
-  pub coefficient_in-scaled : (p c : ℕ) (f : Polynomial) → coefficient_in v k (scaled p c f) ≡ scaled p c (coefficient_in v k f)
-  coefficient_in-scaled p c [] = refl
-  coefficient_in-scaled p c (t ∷ f) = ap (λ z. cond (eqb (exponent_of v t.0) k) (term (set t.0 v 0) ((scaled_term p c t).1) ∷ z) z) (coefficient_in-scaled p c f) ∙ sym (map-cond (scaled_term p c) (eqb (exponent_of v t.0) k) (term (set t.0 v 0) t.1) (coefficient_in v k f))
-
   module _ (p n : ℕ) (positive : 0 < p) where
     -- of the sum
     pub coefficient_in-sum_of : (f g : Polynomial) → IsPolynomial p n f → IsPolynomial p n g → coefficient_in v k (sum_of p f g) ≡ sum_of p (coefficient_in v k f) (coefficient_in v k g)
     coefficient_in-sum_of f g i j = coefficient_in-collected v k p n positive (f ++ g) (EachMonomial-append (λ m. length m ≡ n) f g (HaveLength-from_IsPolynomial p n f i) (HaveLength-from_IsPolynomial p n g j)) ∙ ap (collected p) (coefficient_in-append f g)
-
-    -- of the difference
-    pub coefficient_in-difference_of : (f g : Polynomial) → IsPolynomial p n f → IsPolynomial p n g → coefficient_in v k (difference_of p f g) ≡ difference_of p (coefficient_in v k f) (coefficient_in v k g)
-    coefficient_in-difference_of f g i j = coefficient_in-sum_of f (negative_of p g) i (IsPolynomial-negative_of p n g j) ∙ ap (sum_of p (coefficient_in v k f)) (coefficient_in-negative_of p g)
 
 cond_and : {X : Type 0} (a b : Bool) (x y : X) → cond (a && b) x y ≡ cond a (cond b x y) y
 cond_and true b x y = refl

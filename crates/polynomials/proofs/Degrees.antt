@@ -2,7 +2,7 @@
 use Rattle.std.proofs.Common.{◌≡◌, ◌≢◌, ℕ, ◌+◌, ◌<◌, ◌≤◌, max, cond, eqb, List, [], ◌∷◌, set, refl, sym, ap, ap₂, ◌∙◌, inl, inr, subst, arith}
 use Rattle.std.proofs.lemmas.Bool.{cond-true, cond-false, eqb-false, eq-eqb, ne_eqb, cases_lt, cases_eq, cases_Bool}
 use Rattle.polynomials.specs.Monomials.{Monomial, exponent_of}
-use Rattle.polynomials.specs.Polynomials.{Term, term, Polynomial, sum_of, product_of, negative_of, difference_of, scaled}
+use Rattle.polynomials.specs.Polynomials.{Term, term, Polynomial, sum_of, product_of, negative_of, scaled}
 use Rattle.polynomials.specs.Views.{degree_in, coefficient_in, without_power, lead_in, tail_in, IsFreeOf}
 use Rattle.polynomials.proofs.Monomialwise.{EachMonomial, EachMonomial-implied, EachMonomial-both, EachMonomial-sum_of, EachMonomial-product_of}
 use Rattle.polynomials.proofs.Exponents.{exponent_of-product, exponent_of-set_same, exponent_of-set_other, set_zero_itself}
@@ -43,10 +43,6 @@ module _ (v : ℕ) where
   pub degree_in-scaled : (p c : ℕ) (f : Polynomial) → degree_in v (scaled p c f) ≡ degree_in v f
   degree_in-scaled p c [] = refl
   degree_in-scaled p c (t ∷ f) = ap (max (exponent_of v t.0)) (degree_in-scaled p c f)
-
-  -- a bound on both is one on the difference
-  pub degree_in-difference_of : (p d : ℕ) (f g : Polynomial) → degree_in v f ≤ d → degree_in v g ≤ d → degree_in v (difference_of p f g) ≤ d
-  degree_in-difference_of p d f g h i = degree_in-sum_of p d f (negative_of p g) h (subst (λ x. x ≤ d) (sym (degree_in-negative_of p g)) i)
 
   -- bounds on the factors add to one on the product
   pub degree_in-product_of : (p d e : ℕ) (f g : Polynomial) → degree_in v f ≤ d → degree_in v g ≤ e → degree_in v (product_of p f g) ≤ d + e
@@ -114,10 +110,6 @@ module _ (v : ℕ) where
       let first = i.0 in
       let rest = degree_in_below d f h i.1 in
       omega arith
-
-  -- a degree bound with the coefficient 0 isn't reached
-  pub degree_in_falls : (d : ℕ) (f : Polynomial) → 0 < d → degree_in v f ≤ d → coefficient_in v d f ≡ [] → degree_in v f < d
-  degree_in_falls d f positive h e = degree_in_below d f positive (below_bound d f h (absent_power d f e))
 
   -- one with another coefficient is the degree
   pub degree_in_reached : (d : ℕ) (f : Polynomial) → degree_in v f ≤ d → coefficient_in v d f ≢ [] → degree_in v f ≡ d

@@ -4,7 +4,7 @@ use Rattle.std.proofs.lemmas.Bool.{cases_lt}
 use Rattle.std.proofs.lemmas.Bool.Decides.{nat_tests}
 use Rattle.std.proofs.lemmas.List.{get_or_past}
 use Rattle.polynomials.specs.Monomials.{exponent_of}
-use Rattle.polynomials.specs.Polynomials.{term, Polynomial, IsPolynomial, sum_of, product_of, negative_of, difference_of, one_of, variable_power}
+use Rattle.polynomials.specs.Polynomials.{term, Polynomial, IsPolynomial, sum_of, product_of, negative_of, one_of, variable_power}
 use Rattle.polynomials.specs.Views.{degree_in, coefficient_in, without_power, IsFreeOf}
 use Rattle.polynomials.proofs.Monomialwise.{EachMonomial, EachMonomial-implied, EachMonomial-sum_of, EachMonomial-negative_of, EachMonomial-product_of}
 use Rattle.polynomials.proofs.Exponents.{exponent_of-product, exponent_of-power_monomial, exponent_of-power_monomial_other, exponent_of-replicate}
@@ -64,10 +64,6 @@ module _ (v : ℕ) where
   -- the negative has the same exponents
   pub ExponentsBelow-negative_of : (p d : ℕ) (f : Polynomial) → ExponentsBelow v d f → ExponentsBelow v d (negative_of p f)
   ExponentsBelow-negative_of p d f h = EachMonomial-negative_of (λ m. exponent_of v m < d) p f h
-
-  -- a bound on both is one on the difference
-  pub ExponentsBelow-difference_of : (p d : ℕ) (f g : Polynomial) → ExponentsBelow v d f → ExponentsBelow v d g → ExponentsBelow v d (difference_of p f g)
-  ExponentsBelow-difference_of p d f g h i = ExponentsBelow-sum_of p d f (negative_of p g) h (ExponentsBelow-negative_of p d g i)
 
   -- in products the greatest possible exponents add
   pub ExponentsBelow-product_of : (p d e : ℕ) (f g : Polynomial) → ExponentsBelow v (suc d) f → ExponentsBelow v (suc e) g → ExponentsBelow v (suc (d + e)) (product_of p f g)

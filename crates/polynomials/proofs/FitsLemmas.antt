@@ -1,5 +1,5 @@
 -- What it is to fit a width.
-use Rattle.std.proofs.Common.{◌≡◌, ◌⊎◌, ◌↔◌, ℕ, zero, suc, ◌+◌, ◌*◌, ◌≤◌, max, Bool, true, false, ◌&&◌, leb, [], ◌∷◌, length, Some, None, Option, refl, sym, ap, ◌∙◌, subst, inl, inr, add_comm, mul_comm, mul-le-mul, le_trans, arith}
+use Rattle.std.proofs.Common.{◌≡◌, ◌⊎◌, ◌↔◌, ℕ, zero, suc, ◌+◌, ◌*◌, ◌≤◌, max, Bool, true, false, ◌&&◌, leb, [], ◌∷◌, length, Some, None, Option, refl, sym, ap, ◌∙◌, subst, inl, inr, add_comm, mul_comm, arith}
 use Rattle.std.proofs.lemmas.Bool.{and_parts, and_from, leb-true, le-leb}
 use Rattle.std.proofs.lemmas.Option.{same_Some}
 use Rattle.polynomials.specs.Monomials.{Monomial, exponent_of, monomial_product}
@@ -76,10 +76,6 @@ passes_test false f g e = cc
 pub product_within_is : (p w : ℕ) (f g h : Polynomial) → product_within p w f g ≡ Some h → (fits w f g ≡ true) × (product_of p f g ≡ h)
 product_within_is p w f g h e = passes_test (fits w f g) (product_of p f g) h e
 
--- and the product of what fits is within
-pub product_within_from_fits : (p w : ℕ) (f g : Polynomial) → fits w f g ≡ true → product_within p w f g ≡ Some (product_of p f g)
-product_within_from_fits p w f g e = ap (λ b. elim b as (λ _. Option Polynomial) [ true ↦ Some (product_of p f g) | false ↦ None ]) e
-
 -- what two polynomials that fit have, in the other order
 fits_turned : (w : ℕ) (f g : Polynomial) → (f ≡ []) ⊎ ((g ≡ []) ⊎ ((length f * length g ≤ w) × ((v : ℕ) → degree_in v f + degree_in v g ≤ 65535))) → (g ≡ []) ⊎ ((f ≡ []) ⊎ ((length g * length f ≤ w) × ((v : ℕ) → degree_in v g + degree_in v f ≤ 65535)))
 fits_turned w f g (inl e) = inr (inl e)
@@ -89,14 +85,3 @@ fits_turned w f g (inr (inr h)) = inr (inr (subst (λ n. n ≤ w) (mul_comm (len
 -- the order of the factors doesn't matter
 pub fits_comm : (w : ℕ) (f g : Polynomial) → fits w f g ≡ true → fits w g f ≡ true
 fits_comm w f g e = (fits_in_each_variable w g f).1 (fits_turned w f g ((fits_in_each_variable w f g).0 e))
-
--- polynomials with no more terms and no greater degrees fit too
-pub fits_smaller : (w : ℕ) (f g k l : Polynomial) → length k ≤ length f → length l ≤ length g → ((v : ℕ) → degree_in v k ≤ degree_in v f) → ((v : ℕ) → degree_in v l ≤ degree_in v g) → fits w f g ≡ true → fits w k l ≡ true
-fits_smaller w f g [] l a b c d e = refl
-fits_smaller w f g (t ∷ k) [] a b c d e = refl
-fits_smaller w f g (t ∷ k) (u ∷ l) a b c d e = (fits_in_each_variable w (t ∷ k) (u ∷ l)).1 (smaller f g a b c d ((fits_in_each_variable w f g).0 e))
-  where
-    smaller : (f g : Polynomial) → suc (length k) ≤ length f → suc (length l) ≤ length g → ((v : ℕ) → degree_in v (t ∷ k) ≤ degree_in v f) → ((v : ℕ) → degree_in v (u ∷ l) ≤ degree_in v g) → (f ≡ []) ⊎ ((g ≡ []) ⊎ ((length f * length g ≤ w) × ((v : ℕ) → degree_in v f + degree_in v g ≤ 65535))) → (t ∷ k ≡ []) ⊎ ((u ∷ l ≡ []) ⊎ ((length (t ∷ k) * length (u ∷ l) ≤ w) × ((v : ℕ) → degree_in v (t ∷ k) + degree_in v (u ∷ l) ≤ 65535)))
-    smaller f g a b c d (inl z) = absurd (omega (arith, ap length z))
-    smaller f g a b c d (inr (inl z)) = absurd (omega (arith, ap length z))
-    smaller f g a b c d (inr (inr h)) = inr (inr (le_trans (mul-le-mul a b) h.0, λ v. omega (arith, c v, d v, h.1 v)))

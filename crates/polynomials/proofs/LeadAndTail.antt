@@ -4,7 +4,7 @@ use Rattle.std.proofs.lemmas.List.{length-replicate}
 use Rattle.std.proofs.lemmas.Bool.{eqb-true}
 use Rattle.polynomials.specs.Monomials.{Monomial, exponent_of, monomial_product}
 use Rattle.polynomials.specs.Polynomials.{Polynomial, IsPolynomial, sum_of, product_of, variable_power}
-use Rattle.polynomials.specs.Views.{degree_in, coefficient_in, without_power, lead_in, tail_in}
+use Rattle.polynomials.specs.Views.{degree_in, coefficient_in, without_power}
 use Rattle.polynomials.specs.Rings.{Ring, power_in, weighted_sum, monomial_value, value}
 use Rattle.polynomials.specs.Laws.{LeadAndTail}
 use Rattle.polynomials.proofs.RingLaws.{times_comm}
@@ -72,7 +72,3 @@ module _ {A : Type 0} (r : Ring A) where
           weighted_sum-same r (λ m. cond (eqb (exponent_of v m) k) (monomial_value r xs m) nil) (at_power r v k (λ m. monomial_value r xs m ⊗ power_in r (get_or xs v nil) k)) (λ m. choice (eqb (exponent_of v m) k) nil m (eqb-true (exponent_of v m) k)) f
           ∙ sym (weighted_sum-coefficient_in r (λ m. monomial_value r xs m ⊗ power_in r (get_or xs v nil) k) v k f)
           ∙ weighted_sum-times_right r (power_in r (get_or xs v nil) k) (monomial_value r xs) (coefficient_in v k f)
-
-  -- the value by lead and tail
-  pub value-lead_and_tail : (xs : List A) (v : ℕ) (f : Polynomial) → v < length xs → value r xs f ≡ (value r xs (lead_in v f) ⊗ power_in r (get_or xs v nil) (degree_in v f)) ⊕ value r xs (tail_in v f)
-  value-lead_and_tail xs v f below = value-by_power xs v (degree_in v f) f below

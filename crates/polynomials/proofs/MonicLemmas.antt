@@ -1,15 +1,11 @@
 -- Multiples by a residue, and monic polynomials.
-use Rattle.std.proofs.Common.{◌≡◌, ◌≢◌, ◌↔◌, ℕ, zero, suc, ◌*◌, ◌%◌, ◌<◌, List, [], ◌∷◌, refl, sym, ap, ap₂, ◌∙◌, inl, inr, mod-lt, mod-eq_of_lt, mul_comm, mul_assoc, one-mul, arith}
+use Rattle.std.proofs.Common.{◌≡◌, ◌≢◌, ℕ, zero, suc, ◌*◌, ◌%◌, ◌<◌, [], ◌∷◌, refl, sym, ap, ap₂, ◌∙◌, inl, inr, mod-lt, mod-eq_of_lt, mul_comm, mul_assoc, one-mul, arith}
 use Rattle.std.proofs.lemmas.Nat.{mul-mod_first, mul-mod_second}
 use Rattle.polynomials.specs.Primes.{IsPrime, IsInverse, inverse_of}
 use Rattle.polynomials.specs.Monomials.{Monomial}
-use Rattle.polynomials.specs.Polynomials.{Term, term, Polynomial, StartsBelow, IsPolynomial, scaled, monic, constant_of}
-use Rattle.polynomials.specs.Rings.{Ring, HasCharacteristic, natural_in, value}
+use Rattle.polynomials.specs.Polynomials.{Term, term, Polynomial, StartsBelow, IsPolynomial, scaled, monic}
 use Rattle.polynomials.specs.Laws.{MonicIsMonic}
 use Rattle.polynomials.proofs.InverseLemmas.{inverse_of_is, prime_divides_a_factor, mod-zero}
-use Rattle.polynomials.proofs.RingLaws.{times-nil, one-times, times_assoc}
-use Rattle.polynomials.proofs.NaturalsInRings.{natural_in-mod, natural_in-mul, natural_in-one, natural_in-nonzero}
-use Rattle.polynomials.proofs.Values.{value-scaled, value-constant_of}
 
 -- an inverse isn't 0
 pub inverse_positive : (p a b : ℕ) → IsInverse p a b → 0 < b
@@ -81,27 +77,3 @@ monic_zero p (t ∷ f) e = cc
 -- f is its first coefficient times its monic form
 pub scaled-monic : (p n : ℕ) (t : Term) (f : Polynomial) → IsPrime p → IsPolynomial p n (t ∷ f) → scaled p t.1 (monic p (t ∷ f)) ≡ t ∷ f
 scaled-monic p n t f prime i = scaled-scaled p t.1 (inverse_of p t.1) (t ∷ f) ∙ ap (λ c. scaled p c (t ∷ f)) (inverse_of_is p t.1 prime i.1 i.2).1 ∙ scaled-one p n (t ∷ f) i
-
-module _ {A : Type 0} (r : Ring A) (p n : ℕ) (characteristic : HasCharacteristic r p) (prime : IsPrime p) (xs : List A) where
-  open r use {◌⊕◌, ◌⊗◌, nil, one, neg}
-
-  -- a multiple is 0 only where f is
-  pub value-scaled_zero : (c : ℕ) (f : Polynomial) → 0 < c → c < p → value r xs (scaled p c f) ≡ nil → value r xs f ≡ nil
-  value-scaled_zero c f positive small e =
-      let inverse = inverse_of_is p c prime positive small in
-      let b = inverse_of p c in
-      let one_again : natural_in r b ⊗ natural_in r c ≡ one = sym (natural_in-mul r b c) ∙ ap (natural_in r) (mul_comm b c) ∙ sym (natural_in-mod r p characteristic (c * b)) ∙ ap (natural_in r) inverse.1 ∙ natural_in-one r in
-      sym (one-times r (value r xs f)) ∙ ap (λ w. w ⊗ value r xs f) (sym one_again) ∙ times_assoc r (natural_in r b) (natural_in r c) (value r xs f) ∙ ap (λ w. natural_in r b ⊗ w) (sym (value-scaled r p characteristic xs c f) ∙ e) ∙ times-nil r (natural_in r b)
-
-  -- the monic form has the same zeros
-  pub value-monic_zero : (f : Polynomial) → IsPolynomial p n f → (value r xs (monic p f) ≡ nil) ↔ (value r xs f ≡ nil)
-  value-monic_zero [] i = (λ e. e, λ e. e)
-  value-monic_zero (t ∷ f) i =
-      let c = inverse_of_first p n t f prime i in (
-        λ e. value-scaled_zero (inverse_of p t.1) (t ∷ f) c.0 c.1 e,
-        λ e. value-scaled r p characteristic xs (inverse_of p t.1) (t ∷ f) ∙ ap (λ w. natural_in r (inverse_of p t.1) ⊗ w) e ∙ times-nil r (natural_in r (inverse_of p t.1)),
-      )
-
-  -- where 1 isn't 0, a constant other than 0 has a value other than 0
-  pub value-constant_nonzero : one ≢ nil → (c : ℕ) → 0 < c → c < p → value r xs (constant_of n c) ≢ nil
-  value-constant_nonzero h c positive small e = natural_in-nonzero r p characteristic h c (inverse_of p c) (inverse_of_is p c prime positive small).1 (sym (value-constant_of r xs n c) ∙ e)

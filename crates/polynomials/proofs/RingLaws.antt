@@ -116,11 +116,6 @@ module _ {A : Type 0} (r : Ring A) where
       one_more : suc d + e ≡ suc (d + e)
       one_more = omega arith
 
-  -- powers of products
-  pub power_in-times : (x y : A) (e : ℕ) → power_in r (x ⊗ y) e ≡ power_in r x e ⊗ power_in r y e
-  power_in-times x y zero = sym (one-times one)
-  power_in-times x y (suc e) = ap (λ w. (x ⊗ y) ⊗ w) (power_in-times x y e) ∙ times_four x y (power_in r x e) (power_in r y e)
-
   -- the first power
   pub power_in-one : (x : A) → power_in r x 1 ≡ x
   power_in-one x = times-one x

@@ -10,7 +10,7 @@ use Rattle.polynomials.specs.Rings.{Ring, natural_in, weighted_sum}
 use Rattle.polynomials.proofs.RingLaws.{nil-plus, plus-nil, times-one, times-nil, plus_cancel_left}
 use Rattle.polynomials.proofs.SumsOfOperations.{weighted_sum-collected}
 use Rattle.polynomials.proofs.Residues.{Residue, residues, natural_in-residues_small, residues_characteristic}
-use Rattle.polynomials.proofs.Monomialwise.{HaveLength, HaveLength-from_IsPolynomial}
+use Rattle.polynomials.proofs.Monomialwise.{HaveLength-from_IsPolynomial}
 use Rattle.polynomials.proofs.Canonical.{StartsBelow_trans, monomial_order_greater, IsPolynomial-collected}
 
 -- both have the same weighted sums in the residues modulo p
@@ -100,10 +100,6 @@ module _ (p n : ℕ) where
   same_from_sums [] (u ∷ g) i j same = absurd (first_without u g [] j i tt (SameSums-sym p [] (u ∷ g) same))
   same_from_sums (t ∷ f) [] i j same = absurd (first_without t f [] i j tt same)
   same_from_sums (t ∷ f) (u ∷ g) i j same = same_by_order t u f g (monomial_order t.0 u.0) refl i j (same_from_sums f g i.4 j.4) same
-
-  -- a polynomial with the sums of a list of terms is what they are collected to
-  pub collected_from_sums : 0 < p → (ts : List Term) (g : Polynomial) → HaveLength n ts → IsPolynomial p n g → SameSums p ts g → collected p ts ≡ g
-  collected_from_sums positive ts g h j same = same_from_sums (collected p ts) g (IsPolynomial-collected p n positive ts h) j (SameSums-trans p (collected p ts) ts g (SameSums-collected p ts) same)
 
   -- a canonical polynomial is what its terms are collected to
   pub collected_itself : (f : Polynomial) → IsPolynomial p n f → collected p f ≡ f

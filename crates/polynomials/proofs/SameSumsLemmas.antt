@@ -5,7 +5,7 @@ use Rattle.std.proofs.lemmas.List.{length-set, get_or-set_same, get_or-set_other
 use Rattle.std.proofs.lemmas.List.Edits.{swap_is}
 use Rattle.std.proofs.lemmas.List.Sorted.{IsPermutation-keeps}
 use Rattle.polynomials.specs.Monomials.{Monomial, monomial_product}
-use Rattle.polynomials.specs.Polynomials.{Term, term, Polynomial, IsPolynomial, sum_of, product_of, negative_of, difference_of, scaled, term_product, term_products}
+use Rattle.polynomials.specs.Polynomials.{Term, term, Polynomial, IsPolynomial, sum_of, product_of, scaled, term_product, term_products}
 use Rattle.polynomials.specs.Rings.{Ring, natural_in, weighted_sum}
 use Rattle.polynomials.proofs.RingLaws.{plus_comm, plus_assoc, plus_left_comm, nil-plus, nil-times, plus-times, plus_cancel_right}
 use Rattle.polynomials.proofs.NaturalsInRings.{natural_in-add, natural_in-mod}
@@ -14,7 +14,7 @@ use Rattle.polynomials.proofs.SumsOfOperations.{weighted_sum-scaled}
 use Rattle.polynomials.proofs.Monomialwise.{EachMonomial-implied, HaveLength-from_IsPolynomial}
 use Rattle.polynomials.specs.MonomialOrders.{replicate-monomial_product}
 use Rattle.polynomials.proofs.Residues.{Residue, residues, residues_characteristic}
-use Rattle.polynomials.proofs.Canonical.{IsPolynomial-sum_of, IsPolynomial-product_of, IsPolynomial-difference_of}
+use Rattle.polynomials.proofs.Canonical.{IsPolynomial-sum_of, IsPolynomial-product_of}
 use Rattle.polynomials.proofs.SamePolynomials.{SameSums, SameSums-trans, SameSums-sym, SameSums-collected, same_from_sums}
 
 module _ {A : Type 0} (r : Ring A) (h : Monomial → A) where
@@ -91,10 +91,6 @@ module _ (p : ℕ) where
     -- a polynomial with the sums of f and g one after the other is their sum
     pub sum_of_from_sums : (f g : Polynomial) → IsPolynomial p n f → IsPolynomial p n g → SameSums p k (f ++ g) → k ≡ sum_of p f g
     sum_of_from_sums f g i j e = same_from_sums p n k (sum_of p f g) ik (IsPolynomial-sum_of p n positive f g i j) (SameSums-trans p k (f ++ g) (sum_of p f g) e (SameSums-sym p (sum_of p f g) (f ++ g) (SameSums-collected p (f ++ g))))
-
-    -- with those of f and the negative of g, their difference
-    pub difference_of_from_sums : (f g : Polynomial) → IsPolynomial p n f → IsPolynomial p n g → SameSums p k (f ++ negative_of p g) → k ≡ difference_of p f g
-    difference_of_from_sums f g i j e = same_from_sums p n k (difference_of p f g) ik (IsPolynomial-difference_of p n positive f g i j) (SameSums-trans p k (f ++ negative_of p g) (difference_of p f g) e (SameSums-sym p (difference_of p f g) (f ++ negative_of p g) (SameSums-collected p (f ++ negative_of p g))))
 
     -- and with those of the products of their terms, their product
     pub product_of_from_sums : (f g : Polynomial) → IsPolynomial p n f → IsPolynomial p n g → SameSums p k (term_products f g) → k ≡ product_of p f g

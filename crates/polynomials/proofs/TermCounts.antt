@@ -1,11 +1,10 @@
 -- How many terms a polynomial has.
-use Rattle.std.proofs.Common.{◌≡◌, ℕ, zero, suc, ◌+◌, ◌*◌, ◌%◌, ◌≤◌, Bool, true, false, cond, eqb, List, [], ◌∷◌, ◌++◌, map, length, set, length-append, refl, sym, ap, ◌∙◌, subst, zero-mul, arith}
+use Rattle.std.proofs.Common.{◌≡◌, ℕ, zero, suc, ◌+◌, ◌*◌, ◌%◌, ◌≤◌, List, [], ◌∷◌, map, length, length-append, sym, ap, ◌∙◌, subst, zero-mul, arith}
 use Rattle.std.proofs.lemmas.List.{length-map}
 use Rattle.std.specs.declared.cmp.Ordering.{Ordering}
 use Rattle.std.specs.declared.cmp.Ordering.TheVariants.{Less, Equal, Greater}
-use Rattle.polynomials.specs.Monomials.{exponent_of, monomial_order}
-use Rattle.polynomials.specs.Polynomials.{Term, term, Polynomial, with_first, added_beside, with_term, collected, sum_of, product_of, negative_of, difference_of, scaled, opposite_term, scaled_term, term_product, term_products}
-use Rattle.polynomials.specs.Views.{coefficient_in, without_power}
+use Rattle.polynomials.specs.Monomials.{monomial_order}
+use Rattle.polynomials.specs.Polynomials.{Term, term, Polynomial, with_first, added_beside, with_term, collected, product_of, term_product, term_products}
 
 -- a term more at most
 pub length-with_first : (t : Term) (f : Polynomial) → length (with_first t f) ≤ suc (length f)
@@ -32,22 +31,6 @@ length-collected p (t ∷ ts) =
     let rest = length-collected p ts in
     omega arith
 
--- a sum
-pub length-sum_of : (p : ℕ) (f g : Polynomial) → length (sum_of p f g) ≤ length f + length g
-length-sum_of p f g = subst (λ n. length (sum_of p f g) ≤ n) (length-append f g) (length-collected p (f ++ g))
-
--- the negative
-pub length-negative_of : (p : ℕ) (f : Polynomial) → length (negative_of p f) ≡ length f
-length-negative_of p f = length-map f (opposite_term p)
-
--- a multiple
-pub length-scaled : (p c : ℕ) (f : Polynomial) → length (scaled p c f) ≡ length f
-length-scaled p c f = length-map f (scaled_term p c)
-
--- a difference
-pub length-difference_of : (p : ℕ) (f g : Polynomial) → length (difference_of p f g) ≤ length f + length g
-length-difference_of p f g = subst (λ n. length (difference_of p f g) ≤ length f + n) (length-negative_of p g) (length-sum_of p f (negative_of p g))
-
 -- each term of f by each of g
 pub length-term_products : (f g : List Term) → length (term_products f g) ≡ length f * length g
 length-term_products [] g = sym (zero-mul (length g))
@@ -59,12 +42,3 @@ length-term_products (t ∷ f) g = length-append (map (term_product t) g) (term_
 -- a product
 pub length-product_of : (p : ℕ) (f g : Polynomial) → length (product_of p f g) ≤ length f * length g
 length-product_of p f g = subst (λ n. length (product_of p f g) ≤ n) (length-term_products f g) (length-collected p (term_products f g))
-
-split_lengths : {X : Type 0} (b : Bool) (x y : X) (f g : List X) → length (cond b (x ∷ f) f) + length (cond b g (y ∷ g)) ≡ suc (length f + length g)
-split_lengths true x y f g = omega arith
-split_lengths false x y f g = omega arith
-
--- the terms of a coefficient and the others are all terms
-pub length-by_power : (v k : ℕ) (f : Polynomial) → length (coefficient_in v k f) + length (without_power v k f) ≡ length f
-length-by_power v k [] = refl
-length-by_power v k (t ∷ f) = split_lengths (eqb (exponent_of v t.0) k) (term (set t.0 v 0) t.1) t (coefficient_in v k f) (without_power v k f) ∙ ap suc (length-by_power v k f)

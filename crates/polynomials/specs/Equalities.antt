@@ -14,8 +14,8 @@ equivalence_from_decides E each = record {
   refl = λ x. (each x x).1 refl;
   symm =
       λ x y.
-        same_from_decides (E x y) (E y x) (each x y)
-        ((λ h. sym ((each y x).0 h)), (λ e. (each y x).1 (sym e)));
+      same_from_decides (E x y) (E y x) (each x y)
+      ((λ h. sym ((each y x).0 h)), (λ e. (each y x).1 (sym e)));
   congr = λ x y z h. ap (λ k. E k z) ((each x y).0 h);
 }
 

@@ -27,8 +27,8 @@ abbrev pub fits : ℕ → Polynomial → Polynomial → Bool
 fits w f g =
     is_zero f
     || (is_zero g
-        || (leb (length f * length g) w
-            && is_exponent_list (monomial_product (degrees f) (degrees g))))
+    || (leb (length f * length g) w
+    && is_exponent_list (monomial_product (degrees f) (degrees g))))
 
 -- the product, where it fits
 abbrev pub product_within : ℕ → ℕ → Polynomial → Polynomial → Option Polynomial

@@ -36,7 +36,7 @@ FirstTermOfProduct =
     → IsPolynomial p n (t ∷ f)
     → IsPolynomial p n (u ∷ g)
     → (rest : Polynomial)
-      × (product_of p (t ∷ f) (u ∷ g) ≡ term (monomial_product t.0 u.0) (t.1 * u.1 % p) ∷ rest)
+    × (product_of p (t ∷ f) (u ∷ g) ≡ term (monomial_product t.0 u.0) (t.1 * u.1 % p) ∷ rest)
 
 -- degrees add
 abbrev pub DegreeOfProduct : Type 0
@@ -107,17 +107,17 @@ MonicIsMonic =
     → IsPrime p
     → IsPolynomial p n (t ∷ f)
     → IsPolynomial p n (monic p (t ∷ f))
-      × ((rest : Polynomial) × (monic p (t ∷ f) ≡ term t.0 1 ∷ rest))
+    × ((rest : Polynomial) × (monic p (t ∷ f) ≡ term t.0 1 ∷ rest))
 
 -- what it is to fit, variable by variable
 abbrev pub FitsInEachVariable : Type 0
 FitsInEachVariable =
     (w : ℕ) (f g : Polynomial)
     → (fits w f g ≡ true)
-      ↔ ((f ≡ [])
-         ⊎ ((g ≡ [])
-            ⊎ ((length f * length g ≤ w)
-               × ((v : ℕ) → degree_in v f + degree_in v g ≤ most_exponent))))
+    ↔ ((f ≡ [])
+    ⊎ ((g ≡ [])
+    ⊎ ((length f * length g ≤ w)
+    × ((v : ℕ) → degree_in v f + degree_in v g ≤ most_exponent))))
 
 -- a power within a width is the power
 abbrev pub PowerWithinIsPower : Type 0

@@ -1,5 +1,5 @@
 -- Laws of the order of monomials.
-use Rattle.std.proofs.Common.{◌≡◌, ℕ, zero, suc, ◌+◌, ◌⊎◌, [], ◌∷◌, length, replicate, refl, sym, ap, ap₂, ◌∙◌, subst, inl, inr, arith}
+use Rattle.std.proofs.Common.{◌≡◌, ℕ, ◌+◌, ◌⊎◌, [], ◌∷◌, length, refl, sym, ap, ap₂, ◌∙◌, subst, inl, inr, arith}
 use Rattle.std.specs.Cmp.{IsTotalOrder}
 use Rattle.std.specs.Ordering.{nat_cmp, ordering_then, ordering_reverse}
 use Rattle.std.specs.declared.cmp.Ordering.{Ordering}
@@ -127,5 +127,5 @@ pub monomial_product_cancel :
 monomial_product_cancel k l m h same =
     monomial_order_same l m
     (sym (monomial_order-product k l m h)
-     ∙ ap (λ x. monomial_order x (monomial_product k m)) same
-     ∙ monomial_order-refl (monomial_product k m))
+    ∙ ap (λ x. monomial_order x (monomial_product k m)) same
+    ∙ monomial_order-refl (monomial_product k m))

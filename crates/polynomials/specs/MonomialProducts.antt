@@ -1,5 +1,5 @@
 -- Laws of the product of monomials.
-use Rattle.std.proofs.Common.{◌≡◌, ℕ, zero, suc, ◌+◌, [], ◌∷◌, length, replicate, refl, ap, ap₂, ◌∙◌, arith}
+use Rattle.std.proofs.Common.{◌≡◌, ℕ, zero, suc, [], ◌∷◌, length, replicate, refl, ap, ap₂, ◌∙◌, arith}
 use Rattle.polynomials.specs.Monomials.{Monomial, monomial_product}
 
 -- the factors may change places

@@ -14,11 +14,6 @@ module _ {A : Type 0} where
   abbrev pub IsMade : Option (List A) → List A → Option (List A) → Type 0
   IsMade whole made rest = whole ≡ and_then rest (λ xs. Some (made ++ xs))
 
-  -- at first nothing was made
-  pub made_nothing : (whole : Option (List A)) → IsMade whole [] whole
-  made_nothing None = refl
-  made_nothing (Some xs) = refl
-
   -- one more entry
   pub made_more : (whole : Option (List A)) (made : List A) (first : Option A) (rest : Option (List A)) (x : A) → first ≡ Some x → IsMade whole made (in_front first rest) → IsMade whole (made ++ x ∷ []) rest
   made_more whole made first rest x e h = h ∙ (ap (λ y. and_then (in_front y rest) (λ xs. Some (made ++ xs))) e ∙ go rest)
@@ -30,10 +25,6 @@ module _ {A : Type 0} where
   -- an entry that isn't there
   pub made_none : (whole : Option (List A)) (made : List A) (first : Option A) (rest : Option (List A)) → first ≡ None → IsMade whole made (in_front first rest) → whole ≡ None
   made_none whole made first rest e h = h ∙ ap (λ y. and_then (in_front y rest) (λ xs. Some (made ++ xs))) e
-
-  -- at the end nothing is to come
-  pub made_all : (whole : Option (List A)) (made : List A) → IsMade whole made (Some []) → whole ≡ Some made
-  made_all whole made h = h ∙ ap Some (append-nil made)
 
 -- one more copy of an item
 pub copied_more : {X : Type 0} (xs out longer : List X) (i : ℕ) (x y : X) → slice_get xs i ≡ Some x → y ≡ x → longer ≡ out ++ y ∷ [] → out ++ drop i xs ≡ xs → longer ++ drop (i + 1) xs ≡ xs

@@ -28,18 +28,6 @@ module _ (p v : ℕ) (g h : Row Polynomial) where
   leads_after None each = tt
   leads_after (Some rows) each = leads_ended rows.later rows.last each
 
-  some_ended : (later : List (Row Polynomial)) (last : Option (Row Polynomial)) → IfRows (λ r. r.leads ≢ []) (ended (with_leads p v (g ∷ h ∷ later)) last)
-  some_ended later None = λ e. cc
-  some_ended later (Some z) = λ e. cc
-
-  some_after : (o : Option (LaterRows Polynomial)) → IfRows (λ r. r.leads ≢ []) (outcome_after p v (g ∷ h ∷ []) o)
-  some_after None = tt
-  some_after (Some rows) = some_ended rows.later rows.last
-
   -- the leads of an outcome are canonical
   pub outcome_leads : (o : Option (LaterRows Polynomial)) (made : Remainders) → made ≡ outcome_after p v (g ∷ h ∷ []) o → EachRemainderRow (IsPolynomialRow p VARS) made → IfRows (λ r. ArePolynomials p VARS r.leads) made
   outcome_leads o made is each = subst (IfRows (λ r. ArePolynomials p VARS r.leads)) (sym is) (leads_after o (subst (EachRemainderRow (IsPolynomialRow p VARS)) is each))
-
-  -- and there is one
-  pub outcome_has_leads : (o : Option (LaterRows Polynomial)) (made : Remainders) → made ≡ outcome_after p v (g ∷ h ∷ []) o → IfRows (λ r. r.leads ≢ []) made
-  outcome_has_leads o made is = subst (IfRows (λ r. r.leads ≢ [])) (sym is) (some_after o)

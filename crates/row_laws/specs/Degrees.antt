@@ -124,7 +124,7 @@ RemainderRowsFall =
     → ArePolynomialRows p n (t ∷ c ∷ chain)
     → StartRemainderRows v (first_entries chain) t.first c.first
     → HaveFallingDegrees p n v (first_entries chain) c
-      (remainder_rows (list_operations p n) w v chain t c)
+    (remainder_rows (list_operations p n) w v chain t c)
 
 -- a variable other than v that occurs in no entry of t, c and the chain occurs in no entry of the
 -- rows
@@ -137,4 +137,4 @@ RemainderRowsAreFree =
     → x ≢ v
     → EachRow (IsRowFreeOf x) (t ∷ c ∷ chain)
     → EachRow (IsRowFreeOf x) (remainder_rows (list_operations p n) w v chain t c).later
-      × IfRow (IsRowFreeOf x) (remainder_rows (list_operations p n) w v chain t c).last
+    × IfRow (IsRowFreeOf x) (remainder_rows (list_operations p n) w v chain t c).last

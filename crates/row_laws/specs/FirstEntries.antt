@@ -10,15 +10,15 @@ pub record LookAtFirstEntries (p n : ℕ) : Type 0 where
   pub sparse_remainder :
       (v : ℕ) (f g : Row Polynomial)
       → (sparse_remainder (list_operations p n) v f g).first
-        ≡ (sparse_remainder (list_operations p n) v (plain f.first) (plain g.first)).first
+      ≡ (sparse_remainder (list_operations p n) v (plain f.first) (plain g.first)).first
   pub pseudo_remainder :
       (v : ℕ) (f g : Row Polynomial)
       → (pseudo_remainder (list_operations p n) v f g).first
-        ≡ (pseudo_remainder (list_operations p n) v (plain f.first) (plain g.first)).first
+      ≡ (pseudo_remainder (list_operations p n) v (plain f.first) (plain g.first)).first
   pub reduction :
       (chain : List (Row Polynomial)) (f : Row Polynomial)
       → (reduction (list_operations p n) chain f).first
-        ≡ reduction_of p n (first_entries chain) f.first
+      ≡ reduction_of p n (first_entries chain) f.first
 
 -- for every modulus and number of variables
 abbrev pub FirstEntriesStandAlone : Type 0

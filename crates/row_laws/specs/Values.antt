@@ -23,14 +23,14 @@ pub record MultiplyValues
   pub by_sparse_remainder :
       (j : ℕ)
       × (value_at r xs (sparse_remainder (list_operations p n) v f g).first
-         ≡ times_in r (power_at r (value_at r xs (lead_in v g.first)) j) (value_at r xs f.first))
+      ≡ times_in r (power_at r (value_at r xs (lead_in v g.first)) j) (value_at r xs f.first))
   -- a pseudo-remainder by its power d - e + 1 for the degrees d and e
   pub by_pseudo_remainder :
       value_at r xs (pseudo_remainder (list_operations p n) v f g).first
       ≡ times_in r
-        (power_at r (value_at r xs (lead_in v g.first))
-         (turns (list_operations p n) v f.first g.first))
-        (value_at r xs f.first)
+      (power_at r (value_at r xs (lead_in v g.first))
+      (turns (list_operations p n) v f.first g.first))
+      (value_at r xs f.first)
   -- so that is zero where both are, and where the lead of g isn't zero only there
   pub keeps_zero :
       value_at r xs f.first ≡ r.nil
@@ -70,7 +70,7 @@ ReductionsMultiplyValues =
     → IsPolynomial p n f
     → InZeroSet r xs chain
     → IsMultipleByInitials p n r xs chain (value_at r xs f)
-      (value_at r xs (reduction_of p n chain f))
+    (value_at r xs (reduction_of p n chain f))
 
 -- so it is zero where f is
 abbrev pub ReductionsKeepZeros : Type 0

@@ -51,6 +51,6 @@ RemainderRowsEndInCommonZero =
     → StartRemainderRows v (first_entries chain) t.first c.first
     → InZeroSet r xs (first_entries (t ∷ c ∷ chain))
     → AreNonZero r xs
-      (leads (list_operations p n) v
-       (c ∷ (remainder_rows (list_operations p n) w v chain t c).later))
+    (leads (list_operations p n) v
+    (c ∷ (remainder_rows (list_operations p n) w v chain t c).later))
     → EndInCommonZero r xs c (remainder_rows (list_operations p n) w v chain t c)
