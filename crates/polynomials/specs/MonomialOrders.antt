@@ -7,7 +7,9 @@ use Rattle.std.specs.declared.cmp.Ordering.TheVariants.{Less, Equal, Greater}
 use Rattle.std.proofs.lemmas.Cmp.{nat_cmp_total}
 use Rattle.std.proofs.lemmas.Bool.Decides.{nat_tests}
 use Rattle.polynomials.specs.Monomials.{Monomial, monomial_order, monomial_product}
-pub use Rattle.polynomials.specs.MonomialProducts.{monomial_product_comm, monomial_product_assoc, length-monomial_product, replicate-monomial_product}
+pub use Rattle.polynomials.specs.MonomialProducts.{monomial_product_comm, monomial_product_assoc}
+pub use Rattle.polynomials.specs.MonomialProducts.{length-monomial_product}
+pub use Rattle.polynomials.specs.MonomialProducts.{replicate-monomial_product}
 
 -- a comparison turned round
 then_reverse :
