@@ -20,3 +20,4 @@ pub mod MonicChains
 pub mod FirstEntries
 pub mod Identities
 pub mod Compositions
+pub mod FreeCompositions

@@ -7,6 +7,7 @@ use Rattle.division_rules.specs.Lists.{list_operations}
 use Rattle.division_rules.specs.Rows.{Row}
 use Rattle.division_rules.specs.Units.{entrywise_sum}
 use Rattle.row_laws.specs.Combinations.{IsRowOver}
+use Rattle.row_laws.specs.Degrees.{IsRowFreeOf}
 
 -- cofactors of c, t and the polynomials before t at their places among so many generators, of which
 -- the second to the last are those before t, t, and more: that of c is left out
@@ -36,3 +37,11 @@ CompositionsAreRows =
     → IsRowOver p n (h ∷ before ++ t ∷ more) f
     → IsRowOver p n (f.first ∷ t ∷ before) next
     → IsRowOver p n (h ∷ before ++ t ∷ more) (composition p n f next)
+
+-- no entry of a composition has a variable that no entry of both rows has
+abbrev pub CompositionsAreFree : Type 0
+CompositionsAreFree =
+    (p n x : ℕ) (f next : Row Polynomial)
+    → IsRowFreeOf x f
+    → IsRowFreeOf x next
+    → IsRowFreeOf x (composition p n f next)

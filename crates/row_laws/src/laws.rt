@@ -1,5 +1,5 @@
 ghost use Rattle.row_laws.specs.Combinations.{CombinationsAreKept, ComposedRowsAreCombinations};
-ghost use Rattle.row_laws.specs.Compositions.{CompositionsAreRows};
+ghost use Rattle.row_laws.specs.Compositions.{CompositionsAreRows, CompositionsAreFree};
 ghost use Rattle.row_laws.specs.Identities.{PseudoRemaindersDivide, ReductionsDivide};
 ghost use Rattle.row_laws.specs.Values.{DivisionsMultiplyValues, ReductionsMultiplyValues, ReductionsKeepZeros, ReductionsHaveSameZeros, ReducedToZeroVanishes, CombinationsKeepZeros};
 ghost use Rattle.row_laws.specs.Degrees.{EliminationsLowerDegree, RemaindersHaveLessDegree, DivisionsKeepDegrees, ReductionsKeepDegrees, ReductionsAreFree, ReducedStaysSame, ReducedByMore, RemainderRowsFall, RemainderRowsAreFree};
@@ -162,4 +162,9 @@ pub fn members_are_split()
 /// What lacks the greater main variables is reduced by the whole set where it is by the others.
 pub fn reduced_by_whole()
     ensures { ReducedByWhole }
+{}
+
+/// The composition of two rows brings no variable into an entry.
+pub fn compositions_are_free()
+    ensures { CompositionsAreFree }
 {}
