@@ -1,8 +1,8 @@
 -- The last of remainder rows that don't end with a zero row.
-use Rattle.std.proofs.Common.{◌≡◌, ◌≢◌, ℕ, suc, ◌<◌, ◌≤◌, List, [], ◌∷◌, ◌++◌, Some, None, inl, inr, sym, ap, ◌∙◌, subst, arith}
+use Rattle.std.proofs.Common.{◌≡◌, ◌≢◌, ℕ, suc, ◌<◌, List, [], ◌∷◌, inl, inr, sym, ap, subst, arith}
 use Rattle.std.proofs.lemmas.Bool.{cases_eq}
 use Rattle.polynomials.specs.Polynomials.{Polynomial, ArePolynomials}
-use Rattle.polynomials.specs.Views.{degree_in, main_var, IsFreeOf}
+use Rattle.polynomials.specs.Views.{degree_in, IsFreeOf}
 use Rattle.polynomials.proofs.MainVariables.{free_above_main_var}
 use Rattle.zero_sets.specs.ZeroSets.{members_below}
 use Rattle.division_rules.specs.Chains.{EachRow}

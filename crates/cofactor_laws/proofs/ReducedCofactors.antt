@@ -13,7 +13,7 @@ use Rattle.zero_sets.specs.ZeroSets.{IsTriangularFrom}
 use Rattle.zero_sets.specs.Certificates.{LacksVariable, IsFreeOfMain}
 use Rattle.division_rules.specs.Chains.{EachRow, IfRow}
 use Rattle.division_rules.specs.Lists.{list_operations}
-use Rattle.division_rules.specs.PolynomialRows.{IsPolynomialRow, ArePolynomialRows}
+use Rattle.division_rules.specs.PolynomialRows.{ArePolynomialRows}
 use Rattle.division_rules.specs.Rows.{Row, plain, plains, reduction, first_entries}
 use Rattle.division_rules.specs.Triangular.{HasLessDegree}
 use Rattle.division_rules.specs.Turns.{DegreesFall}
@@ -21,7 +21,6 @@ use Rattle.division_rules.specs.Units.{unit_rows}
 use Rattle.division_rules.specs.Cofactors.{first_cofactor}
 use Rattle.division_rules.proofs.CanonicalViews.{canonical_operations}
 use Rattle.division_rules.proofs.ListLaws.{free_above_main}
-use Rattle.division_rules.proofs.Up.{down_canonical, down_all_canonical}
 use Rattle.division_rules.proofs.RowsShape.{last_occurs}
 use Rattle.row_laws.specs.Words.{reduction_of, AreBelow, IsReducedBy, StartRemainderRows}
 use Rattle.row_laws.specs.Degrees.{IsRowFreeOf}
@@ -35,7 +34,7 @@ use Rattle.cofactor_laws.specs.RowsWithCofactors.{row_of_c, row_of_t, rows_of_ch
 use Rattle.cofactor_laws.specs.Laws.{StandsInTriangular, CofactorLeadIsZeroByLeads, ReducedCofactorShowsLead}
 use Rattle.cofactor_laws.proofs.CofactorRows.{last_cofactor_has_degree}
 use Rattle.cofactor_laws.proofs.DownSteps.{terms-first_cofactor}
-use Rattle.cofactor_laws.proofs.GeneratorLists.{canonical_chain, plain_rows_are, up-plains, second, first, chain_units, down-second, down-first, down-chain_units}
+use Rattle.cofactor_laws.proofs.GeneratorLists.{canonical_chain, plain_rows_are, up-plains}
 use Rattle.cofactor_laws.proofs.LeadPoints.{zero_row_above, lead_shows_lead, reduction_shows_lead}
 
 -- behind t main variables are greater than that of t

@@ -1,6 +1,6 @@
 -- Degrees and coefficients in a variable: what follows from the laws of views.
 use Rattle.std.proofs.Common.{◌≡◌, ◌≢◌, ◌⊎◌, inl, inr, ℕ, zero, suc, ◌+◌, ◌-◌, ◌<◌, ◌≤◌, Bool, true, false, refl, sym, ap, ap₂, subst, ◌∙◌, arith}
-use Rattle.polynomials.proofs.RingLaws.{plus-neg, neg_from_plus, neg-nil, neg-neg, neg-plus, times-nil, nil-times, times-one, times_comm, product_nonzero}
+use Rattle.polynomials.proofs.RingLaws.{plus-neg, neg_from_plus, neg-nil, neg-neg, neg-plus, times-nil, times-one, times_comm, product_nonzero}
 use Rattle.division_rules.proofs.Settings.{ViewedRing, operations}
 use Rattle.division_rules.specs.Operations.{lead, shifted_lead}
 use Rattle.division_rules.specs.Rows.{cross}

@@ -1,15 +1,15 @@
 -- The steps of division on canonical lists of terms give canonical ones.
-use Rattle.std.proofs.Common.{◌≡◌, ℕ, ◌<◌, List, Some, ap, ap₂, ◌∙◌, subst}
-use Rattle.polynomials.specs.Polynomials.{Polynomial, IsPolynomial, ArePolynomials}
+use Rattle.std.proofs.Common.{ℕ, ◌<◌, List, ap, ap₂, ◌∙◌, subst}
+use Rattle.polynomials.specs.Polynomials.{Polynomial, IsPolynomial}
 use Rattle.division_rules.specs.Lists.{list_operations}
 use Rattle.division_rules.specs.Operations.{power, sign}
-use Rattle.division_rules.specs.Rows.{Row, combined, elimination, sparse_remainder_by, sparse_remainder, times_row, pseudo_remainder_by, pseudo_remainder, reduction}
-use Rattle.division_rules.specs.RemainderRows.{quotients, divided, undivided, remainder_rows}
+use Rattle.division_rules.specs.Rows.{Row, elimination, sparse_remainder, pseudo_remainder, reduction}
+use Rattle.division_rules.specs.RemainderRows.{remainder_rows}
 use Rattle.division_rules.specs.PolynomialRows.{IsPolynomialRow, ArePolynomialRows, AreRemainderRows}
 use Rattle.division_rules.proofs.CanonicalViews.{canonical_operations}
-use Rattle.division_rules.proofs.Down.{down, terms-power_of, terms-sign, terms-combined, down-elimination, down-sparse_remainder_by, down-sparse_remainder, down-times_row, down-pseudo_remainder_by, down-pseudo_remainder, down-reduction}
-use Rattle.division_rules.proofs.DownRows.{terms-quotients, down-divided, down-remainder_rows}
-use Rattle.division_rules.proofs.Up.{up_all, up, up_rows, terms-up_all, down-up, down-up_rows, down_canonical, down_rows_canonical, if_all_canonical, if_row_canonical}
+use Rattle.division_rules.proofs.Down.{down, terms-power_of, terms-sign, down-elimination, down-sparse_remainder, down-pseudo_remainder, down-reduction}
+use Rattle.division_rules.proofs.DownRows.{down-remainder_rows}
+use Rattle.division_rules.proofs.Up.{up, up_rows, down-up, down-up_rows, down_canonical, down_rows_canonical}
 
 module _ (p n : ℕ) (many : 1 < p) where
   -- powers

@@ -3,16 +3,15 @@ use Rattle.std.proofs.Common.{◌≡◌, ℕ, ◌<◌, List, Some, ap, ap₂, �
 use Rattle.polynomials.specs.Polynomials.{Polynomial, IsPolynomial}
 use Rattle.division_rules.specs.Lists.{list_operations}
 use Rattle.division_rules.specs.Rows.{Row}
-use Rattle.division_rules.specs.Within.{times_within, elimination_within, sparse_remainder_by_within, sparse_remainder_within, times_row_within, pseudo_remainder_by_within, pseudo_remainder_within, reduction_within, power_of_within}
-use Rattle.division_rules.specs.RemainderRows.{LaterRows, TurnBefore}
-use Rattle.division_rules.specs.RemainderRowsWithin.{psi_within, beta_within, undivided_within, rows_from_within, remainder_rows_within}
-use Rattle.division_rules.specs.PolynomialRows.{IsPolynomialRow, ArePolynomialRows, AreRemainderRows, IsPolynomialTurnBefore}
+use Rattle.division_rules.specs.Within.{elimination_within, times_row_within, power_of_within}
+use Rattle.division_rules.specs.RemainderRows.{LaterRows}
+use Rattle.division_rules.specs.RemainderRowsWithin.{remainder_rows_within}
+use Rattle.division_rules.specs.PolynomialRows.{IsPolynomialRow, ArePolynomialRows, AreRemainderRows}
 use Rattle.division_rules.proofs.CanonicalViews.{canonical_operations}
 use Rattle.division_rules.proofs.Down.{down}
-use Rattle.division_rules.proofs.DownWithin.{terms-times_within, down-elimination_within, down-sparse_remainder_by_within, down-sparse_remainder_within, down-times_row_within, down-pseudo_remainder_by_within, down-pseudo_remainder_within, down-reduction_within, terms-power_of_within}
-use Rattle.division_rules.proofs.DownRowsWithin.{terms-psi_within, terms-beta_within, down-undivided_within, down-rows_from_within, down-remainder_rows_within}
+use Rattle.division_rules.proofs.DownWithin.{down-elimination_within, down-times_row_within, terms-power_of_within}
+use Rattle.division_rules.proofs.DownRowsWithin.{down-remainder_rows_within}
 use Rattle.division_rules.proofs.Up.{up, up_rows, down-up, down-up_rows, if_canonical, if_row_canonical, if_rows_canonical}
-use Rattle.division_rules.proofs.CanonicalTurns.{up_memory, down-up_memory}
 
 module _ (p n : ℕ) (many : 1 < p) (w : ℕ) where
   -- powers

@@ -1,14 +1,10 @@
 -- Psi, beta and the next row of canonical lists of terms are canonical.
-use Rattle.std.proofs.Common.{◌≡◌, ℕ, ◌<◌, List, Some, None, refl, ap, ap₂, ◌∙◌, subst}
-use Rattle.polynomials.specs.Polynomials.{Polynomial, IsPolynomial}
+use Rattle.std.proofs.Common.{◌≡◌, ℕ, ◌<◌, Some, None, refl}
 use Rattle.division_rules.specs.Lists.{list_operations}
-use Rattle.division_rules.specs.Rows.{Row}
-use Rattle.division_rules.specs.RemainderRows.{TurnBefore, psi, beta, next_psi, next_beta, next_row, rows_from}
-use Rattle.division_rules.specs.PolynomialRows.{IsPolynomialRow, ArePolynomialRows, AreRemainderRows, IsPolynomialTurnBefore}
+use Rattle.division_rules.specs.RemainderRows.{TurnBefore}
+use Rattle.division_rules.specs.PolynomialRows.{IsPolynomialTurnBefore}
 use Rattle.division_rules.proofs.CanonicalViews.{canonical_operations}
-use Rattle.division_rules.proofs.Down.{down}
-use Rattle.division_rules.proofs.DownRows.{down_memory, terms-psi, terms-beta, terms-next_psi, terms-next_beta, down-next_row, down-rows_from}
-use Rattle.division_rules.proofs.Up.{up, up_rows, down-up, down-up_rows, down_canonical, down_rows_canonical}
+use Rattle.division_rules.proofs.DownRows.{down_memory}
 
 module _ (p n : ℕ) (many : 1 < p) where
   -- what is remembered of a turn, with its proof

@@ -2,9 +2,8 @@
 use Rattle.std.proofs.Common.{◌≡◌, ◌≢◌, ℕ, ◌<◌, ◌≤◌, List, [], ◌∷◌, ◌++◌, None, ap, ◌∙◌, arith}
 use Rattle.division_rules.specs.Rows.{Row}
 use Rattle.division_rules.specs.Chains.{EachRow, IsBelow, IsChain, IsReduced}
-use Rattle.division_rules.specs.Turns.{IsBase, IsTurn}
+use Rattle.division_rules.specs.Turns.{IsTurn}
 use Rattle.division_rules.proofs.Settings.{ViewedRing}
-use Rattle.division_rules.proofs.Steps.{EachRow-map}
 
 -- what holds of each of two lists of rows, one after the other
 pub EachRow-append : {A : Type 0} (Q : Row A → Type 0) (c d : List (Row A)) → EachRow Q (c ++ d) → EachRow Q c × EachRow Q d

@@ -19,7 +19,7 @@ use Rattle.division_rules.specs.Quotients.{monomial_divides, term_over, quotient
 use Rattle.division_rules.proofs.TermQuotients.{term_over-product, monomial_divides-product}
 use Rattle.division_rules.proofs.QuotientTerms.{product_without_first}
 use Rattle.division_rules.proofs.Quotients.{quotient_within_exact, quotient_within_fits, quotient_within_found, IsPolynomial-quotient_within}
-use Rattle.division_rules.proofs.QuotientCases.{quotient_within_none, quotient_within_unfit, terms_from_fits}
+use Rattle.division_rules.proofs.QuotientCases.{quotient_within_none, terms_from_fits}
 use Rattle.division_rules.proofs.Divisions.{AreAbove, IsPolynomial-push, append_is_sum, IsDivision, first_quotient_canonical, multiple_canonical, first_quotient_times_first, rest_falls}
 
 -- one more term of the quotient takes its product from the rest

@@ -7,7 +7,7 @@ use Rattle.division_rules.specs.Lists.{list_operations}
 use Rattle.division_rules.specs.Operations.{lead, power}
 use Rattle.division_rules.specs.Quotients.{quotient_within}
 use Rattle.division_rules.specs.Rows.{Row, pseudo_remainder, reduction}
-use Rattle.division_rules.specs.RemainderRows.{LaterRows, with_row, both, row_of, quotients, divided, TurnBefore, psi, beta, fall, next_psi, next_beta, undivided, next_row, rows_from, remainder_rows, leads}
+use Rattle.division_rules.specs.RemainderRows.{LaterRows, with_row, both, row_of, quotients, divided, TurnBefore, psi, beta, fall, next_psi, next_beta, undivided, next_row, rows_from, remainder_rows}
 use Rattle.division_rules.proofs.CanonicalViews.{canonical_operations, canonical_quotient-first}
 use Rattle.division_rules.proofs.Down.{choice-into, terms, terms_all, down, down_all, terms-power_of, terms-sign, down-pseudo_remainder, down-reduction}
 

@@ -6,12 +6,12 @@ use Rattle.polynomials.specs.Polynomials.{Polynomial, IsPolynomial, ArePolynomia
 use Rattle.polynomials.specs.Rings.{Ring}
 use Rattle.polynomials.proofs.RingLaws.{times-one, times_comm, times_assoc}
 use Rattle.polynomials.proofs.PolynomialRing.{polynomial_ring}
-use Rattle.division_rules.specs.Quotients.{quotient_within, without_factor, without_factors}
+use Rattle.division_rules.specs.Quotients.{quotient_within, without_factors}
 use Rattle.division_rules.specs.Factors.{IsProductByMembers}
 use Rattle.division_rules.specs.Lists.{list_operations}
 use Rattle.division_rules.specs.Points.{product_of_all}
 use Rattle.division_rules.proofs.Quotients.{quotient_within_exact}
-use Rattle.division_rules.proofs.Factors.{IsPolynomial-member, IsPolynomial-product_of_all, without_factor_relates, without_factors_relates}
+use Rattle.division_rules.proofs.Factors.{IsPolynomial-member, IsPolynomial-product_of_all, without_factors_relates}
 
 -- a list of members of canonical polynomials is one of canonical polynomials
 pub ArePolynomials-members : (p n : ℕ) (bs cs : List Polynomial) → ArePolynomials p n bs → All (Contains bs) cs → ArePolynomials p n cs

@@ -2,7 +2,7 @@
 use Rattle.std.proofs.Common.{◌≡◌, ◌≢◌, ℕ, zero, suc, ◌<◌, ◌≤◌, Bool, true, false, List, [], ◌∷◌, Option, Some, None, Contains, refl, subst, le_trans, arith}
 use Rattle.polynomials.specs.Primes.{IsPrime}
 use Rattle.polynomials.specs.Polynomials.{Polynomial, IsPolynomial, ArePolynomials}
-use Rattle.polynomials.specs.Views.{degree_in, is_constant, IsFreeOf}
+use Rattle.polynomials.specs.Views.{degree_in, is_constant}
 use Rattle.polynomials.proofs.Canonical.{IsPolynomial-product_of, IsPolynomial-one_of}
 use Rattle.division_rules.specs.Quotients.{quotient_within, without_factor, factor_bound, without_factors}
 use Rattle.division_rules.specs.Lists.{list_operations}

@@ -2,7 +2,6 @@
 use Rattle.std.proofs.Common.{◌≡◌, ℕ, zero, suc, Bool, true, false, List, [], ◌∷◌, refl, ap, ◌∙◌}
 use Rattle.division_rules.specs.Operations.{Operations, lead}
 use Rattle.division_rules.specs.Rows.{Row, plain, elimination, is_reduced_by, sparse_remainder_by, sparse_remainder, turns, times_row, pseudo_remainder_by, pseudo_remainder, reduction}
-use Rattle.division_rules.specs.RemainderRows.{undivided}
 
 -- a row without its cofactors
 abbrev pub first_alone : {A : Type 0} → Row A → Row A

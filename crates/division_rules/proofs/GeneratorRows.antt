@@ -2,16 +2,14 @@
 use Rattle.std.proofs.Common.{◌≡◌, ◌≢◌, ◌⊎◌, ℕ, suc, ◌<◌, List, [], ◌∷◌, length, replicate, Some, None, refl, sym, ap, subst, ◌∙◌, arith}
 use Rattle.division_rules.specs.Operations.{lead, initial}
 use Rattle.division_rules.specs.Rows.{Row, plain, plains, reduction}
-use Rattle.division_rules.specs.Chains.{EachRow, AnyRow, IfRow, IsChain}
+use Rattle.division_rules.specs.Chains.{EachRow, AnyRow, IsChain}
 use Rattle.division_rules.specs.RemainderRows.{remainder_rows}
 use Rattle.division_rules.specs.Turns.{IsBase, IsTurn}
-use Rattle.division_rules.specs.Units.{IsCombinationOf, unit_rows}
+use Rattle.division_rules.specs.Units.{unit_rows}
 use Rattle.division_rules.specs.Cofactors.{first_cofactor, AreCofactorSteps}
 use Rattle.division_rules.proofs.Settings.{ViewedRing, operations, Evaluation, IsZero, NotZero, AllZero, InitialsNotZero}
 use Rattle.division_rules.proofs.Bounds.{degree_below}
-use Rattle.division_rules.proofs.Identity.{combination-unit_rows}
 use Rattle.division_rules.proofs.FreeNonzero.{one_free_nonzero}
-use Rattle.division_rules.proofs.RowsShape.{rows_combinations}
 use Rattle.division_rules.proofs.CofactorReductions.{LacksFirst}
 use Rattle.division_rules.proofs.CofactorLeads.{are_cofactor_steps}
 use Rattle.division_rules.proofs.CofactorPoints.{lead_zero}

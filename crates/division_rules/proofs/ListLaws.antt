@@ -1,13 +1,13 @@
 -- Canonical polynomials over a prime field, with their views, meet the laws of division.
-use Rattle.std.proofs.Common.{◌≡◌, ◌≢◌, ℕ, ◌<◌, ◌≤◌, true, false, [], ◌∷◌, Option, Some, None, refl, ap, arith}
+use Rattle.std.proofs.Common.{◌≡◌, ◌≢◌, ℕ, ◌<◌, true, false, [], ◌∷◌, Option, Some, None, refl, ap, arith}
 use Rattle.polynomials.specs.Primes.{IsPrime}
 use Rattle.polynomials.specs.Polynomials.{Polynomial, one_of, is_zero}
-use Rattle.polynomials.specs.Views.{degree_in, coefficient_in, main_var, is_no_variable, is_constant, IsFreeOf}
+use Rattle.polynomials.specs.Views.{coefficient_in, main_var, IsFreeOf}
 use Rattle.polynomials.proofs.CoefficientsOfOperations.{coefficient_in-sum_of}
 use Rattle.polynomials.proofs.Degrees.{coefficient_in_free, lead_in_nonzero}
 use Rattle.polynomials.proofs.Integral.{polynomial_ring_integral}
 use Rattle.polynomials.proofs.PolynomialRing.{CanonicalPolynomial, canonical_path, polynomial_ring}
-use Rattle.polynomials.proofs.MainVariables.{degree_in_main_var, free_above_main_var, free_without_main_var}
+use Rattle.polynomials.proofs.MainVariables.{free_above_main_var, free_without_main_var}
 use Rattle.polynomials.proofs.ExponentsBelow.{ExponentsBelow, ExponentsBelow-more, ExponentsBelow-none, ExponentsBelow-degree, ExponentsBelow-one, ExponentsBelow-sum_of, ExponentsBelow-negative_of, ExponentsBelow-product_of, ExponentsBelow-coefficient_in, ExponentsBelow-unreached, coefficient_in-from_bound, coefficient_in-product_below, coefficient_in-product_scale, variable_power-zero, ExponentsBelow-variable_power, ExponentsBelow-variable_power_other, coefficient_in-variable_power_reached}
 use Rattle.division_rules.specs.Laws.{Laws}
 use Rattle.division_rules.specs.Lists.{variable_or_zero}

@@ -1,13 +1,12 @@
 -- The operations on lists of terms, in the words of polynomials.
 use Rattle.std.proofs.Common.{◌≡◌, ℕ, zero, suc, Option, Some, None, refl, ap, ◌∙◌}
-use Rattle.polynomials.specs.Polynomials.{Polynomial, product_of, difference_of}
+use Rattle.polynomials.specs.Polynomials.{Polynomial, product_of}
 use Rattle.polynomials.specs.Views.{lead_in, main_var, lead_in_main, initial_of}
-use Rattle.polynomials.specs.Fits.{product_within, power_of as list_power, product_so_far, power_within}
+use Rattle.polynomials.specs.Fits.{power_of as list_power, product_so_far, power_within}
 use Rattle.polynomials.proofs.Degrees.{lead_in_itself}
 use Rattle.polynomials.proofs.MainVariables.{free_without_main_var}
-use Rattle.division_rules.specs.Operations.{lead, initial, power}
+use Rattle.division_rules.specs.Operations.{initial, power}
 use Rattle.division_rules.specs.Lists.{variable_or_zero, list_operations}
-use Rattle.division_rules.specs.Rows.{cross}
 use Rattle.division_rules.specs.Within.{and_then, times_within, power_of_within}
 use Rattle.division_rules.specs.ListWords.{WordsAreListWords}
 

@@ -1,11 +1,11 @@
 -- A polynomial times leads of the divisors is its remainder and a combination of the divisors.
-use Rattle.std.proofs.Common.{◌≡◌, inl, inr, ℕ, zero, suc, List, [], ◌∷◌, ◌++◌, length, map, replicate, refl, sym, ap, ap₂, ◌∙◌}
+use Rattle.std.proofs.Common.{◌≡◌, inl, inr, ℕ, zero, suc, List, [], ◌∷◌, ◌++◌, length, map, replicate, refl, sym, ap, ◌∙◌}
 use Rattle.polynomials.specs.Rings.{power_in}
 use Rattle.polynomials.proofs.RingLaws.{one-times, nil-times, nil-plus, plus-nil, times_assoc, times-plus}
 use Rattle.polynomials.proofs.Solver.{var, ◌:+◌, ◌:-◌, ◌:*◌, solve}
 use Rattle.division_rules.specs.Operations.{lead, shifted_lead, initial}
 use Rattle.division_rules.specs.Rows.{Row, first_entries, combined, cross, elimination, is_reduced_by, sparse_remainder, turns, times_row, pseudo_turn, pseudo_remainder_by, reduction}
-use Rattle.division_rules.specs.Points.{product_of_all, IsInitial, AreInitials}
+use Rattle.division_rules.specs.Points.{product_of_all, AreInitials}
 use Rattle.division_rules.proofs.Settings.{ViewedRing, operations}
 use Rattle.division_rules.proofs.Combinations.{combined-times}
 use Rattle.division_rules.proofs.Identity.{length-map_by}

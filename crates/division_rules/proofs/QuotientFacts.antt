@@ -2,7 +2,7 @@
 use Rattle.std.proofs.Common.{◌≡◌, ◌≢◌, ◌⊎◌, ℕ, ◌+◌, ◌≤◌, [], ◌∷◌, Some, refl, sym, ap, ◌∙◌, inl, inr, arith}
 use Rattle.polynomials.specs.Primes.{IsPrime}
 use Rattle.polynomials.specs.Polynomials.{Polynomial, IsPolynomial, product_of}
-use Rattle.polynomials.specs.Views.{degree_in, lead_in, IsFreeOf}
+use Rattle.polynomials.specs.Views.{degree_in, lead_in}
 use Rattle.polynomials.proofs.QuotientLemmas.{quotient_degree, quotient_nonzero}
 use Rattle.polynomials.proofs.DegreesOfProducts.{lead_multiplies}
 use Rattle.division_rules.specs.Quotients.{quotient_within}

@@ -1,13 +1,10 @@
 -- What is reduced stays as it is; a pseudo-remainder is a sparse one with multiplications after it.
-use Rattle.std.proofs.Common.{◌≡◌, ℕ, zero, suc, ◌-◌, Bool, true, false, ◌||◌, ltb, List, [], ◌∷◌, ◌++◌, refl, ap, ◌∙◌}
+use Rattle.std.proofs.Common.{◌≡◌, ℕ, ◌-◌, Bool, true, false, ◌||◌, ltb, List, [], ◌∷◌, refl, ap, ◌∙◌}
 use Rattle.std.proofs.lemmas.Bool.{lt-ltb}
-use Rattle.division_rules.specs.Operations.{lead}
-use Rattle.division_rules.specs.Rows.{Row, elimination, is_reduced_by, sparse_remainder_by, sparse_remainder, turns, times_row, pseudo_remainder_by, pseudo_remainder, reduction}
+use Rattle.division_rules.specs.Rows.{Row, elimination, is_reduced_by, sparse_remainder_by, sparse_remainder, reduction}
 use Rattle.division_rules.specs.Chains.{IsReduced}
-use Rattle.division_rules.specs.Turns.{turns_left, times_row_often}
 use Rattle.division_rules.proofs.Settings.{ViewedRing, operations}
-use Rattle.division_rules.proofs.Bounds.{degree_below, under-scale}
-use Rattle.division_rules.proofs.Steps.{stopped}
+use Rattle.division_rules.proofs.Bounds.{degree_below}
 
 module _ {A : Type 0} (P : ViewedRing A) where
   open P.ring use {◌⊗◌}

@@ -1,4 +1,4 @@
--- The leads of remainder rows are canonical, and there is one.
+-- The leads of remainder rows are canonical.
 use Rattle.std.proofs.Common.{◌≡◌, ◌≢◌, ℕ, List, [], ◌∷◌, Option, Some, None, sym, subst}
 use Rattle.mono_words.specs.declared.mono.TheConstants.{VARS}
 use Rattle.polynomials.specs.Polynomials.{Polynomial, ArePolynomials}

@@ -1,15 +1,14 @@
 -- Pseudo-remainders and reductions of lists of terms as identities.
 use Rattle.std.proofs.Common.{◌≡◌, ℕ, suc, ◌-◌, ◌<◌, List, [], ◌∷◌, length, map, All, Contains, refl, sym, ap, ap₂, ◌∙◌, subst}
-use Rattle.polynomials.specs.Primes.{IsPrime}
-use Rattle.polynomials.specs.Polynomials.{Polynomial, IsPolynomial, ArePolynomials, sum_of, product_of}
+use Rattle.polynomials.specs.Polynomials.{Polynomial, sum_of, product_of}
 use Rattle.polynomials.specs.Rings.{power_in}
 use Rattle.polynomials.specs.Sums.{combination}
-use Rattle.polynomials.specs.Views.{degree_in, lead_in, initial_of}
+use Rattle.polynomials.specs.Views.{degree_in, initial_of}
 use Rattle.polynomials.proofs.PolynomialRing.{CanonicalPolynomial}
 use Rattle.polynomials.proofs.Powers.{power_of-ring}
 use Rattle.division_rules.specs.Operations.{lead}
 use Rattle.division_rules.specs.PolynomialRows.{ArePolynomialRows}
-use Rattle.division_rules.specs.Rows.{Row, plain, plains, first_entries, combined, pseudo_remainder, reduction}
+use Rattle.division_rules.specs.Rows.{Row, plain, plains, first_entries, pseudo_remainder}
 use Rattle.division_rules.proofs.CanonicalViews.{canonical_operations}
 use Rattle.division_rules.proofs.Down.{terms, terms_all, terms-combined}
 use Rattle.division_rules.proofs.Identity.{length-map_by}
@@ -17,8 +16,7 @@ use Rattle.division_rules.proofs.Multiples.{IsDivided, multiple-pseudo_remainder
 use Rattle.division_rules.proofs.PolynomialSetting.{polynomial_setting}
 use Rattle.division_rules.proofs.Settings.{ViewedRing}
 use Rattle.division_rules.proofs.Up.{up_rows, plains_canonical, terms_canonical}
-use Rattle.row_laws.specs.Words.{pseudo_remainder_of, reduction_of}
-use Rattle.row_laws.specs.Identities.{IsPseudoDivision, PseudoRemaindersDivide, IsReductionBy, ReductionsDivide}
+use Rattle.row_laws.specs.Identities.{PseudoRemaindersDivide, ReductionsDivide}
 use Rattle.row_laws.proofs.Initials.{terms-product_of_all, initial_members}
 use Rattle.row_laws.proofs.Lifts.{lifted-pseudo_remainder}
 use Rattle.row_laws.proofs.ReductionValues.{first_entries-plains, chain_rows, canonical_reduction, reduction_is}

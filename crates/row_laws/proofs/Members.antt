@@ -12,7 +12,7 @@ use Rattle.zero_sets.proofs.TriangularSets.{below_triangular}
 use Rattle.division_rules.specs.Rows.{plain}
 use Rattle.division_rules.specs.Triangular.{HasLessDegree}
 use Rattle.row_laws.specs.Words.{AreBelow, IsReducedBy}
-use Rattle.row_laws.specs.Members.{IsMember, MembersArePlaced, MembersAreSplit, LacksMainFrom, ReducedByWhole, MembersStartRemainderRows, PointsAtMembers}
+use Rattle.row_laws.specs.Members.{IsMember, MembersArePlaced, MembersAreSplit, ReducedByWhole, MembersStartRemainderRows, PointsAtMembers}
 
 -- none of them is below v
 pub none_below : (v u : ℕ) (chain : List Polynomial) → v ≤ u → IsTriangularFrom u chain → members_below v chain ≡ []
