@@ -8,3 +8,4 @@ pub mod NamePlaces
 pub mod TreeValues
 pub mod TreeLimits
 pub mod Spelling
+pub mod NonzeroLines

@@ -7,7 +7,7 @@ use Rattle.polynomials.specs.Monomials.{Monomial}
 use Rattle.polynomials.specs.Polynomials.{Polynomial}
 use Rattle.polynomials.specs.Polynomials as poly
 use Rattle.system_text.specs.Limits.{most_digits}
-use Rattle.system_text.specs.Grammar.{Sum, Term, Factor, First, Added, Single, Multiplied, Bare, Raised, Numeral, Variable, IsSumWithin, IsTermWithin, IsFactorWithin}
+use Rattle.system_text.specs.Grammar.{Sum, TermTree, Factor, First, Added, Single, Multiplied, Bare, Raised, Numeral, Variable, IsSumWithin, IsTermWithin, IsFactorWithin}
 use Rattle.report_text.proofs.Trees.{power_tree, power_trees, factor_trees, times_factors, product_tree, term_tree, plus_terms, poly_tree}
 
 -- each factor passes none
@@ -43,7 +43,7 @@ factors_within c (f ∷ fs) below within = go (eqb c 1)
     go true = within
     go false = (coefficient_within c below, within)
 
-times_within : (t : Term) (fs : List Factor) → IsTermWithin 0 t → AreWithin fs → IsTermWithin 0 (times_factors t fs)
+times_within : (t : TermTree) (fs : List Factor) → IsTermWithin 0 t → AreWithin fs → IsTermWithin 0 (times_factors t fs)
 times_within t [] first within = first
 times_within t (f ∷ fs) first within = times_within (Multiplied t f) fs (first, within.0) within.1
 

@@ -15,7 +15,7 @@ use Rattle.sparse_poly.proofs.Moduli.{positive_modulus}
 use Rattle.system_text.specs.Limits.{text_width}
 use Rattle.system_text.specs.Sums.{Setting, place_of_name}
 use Rattle.system_text.specs.Systems.{AreDifferent}
-use Rattle.system_text.specs.Grammar.{Sum, Term, Factor, First, Added, Single, Multiplied, Bare, Raised, Numeral, Variable, of_both, of_one, variable_of, sum_value, term_value, factor_value}
+use Rattle.system_text.specs.Grammar.{Sum, TermTree, Factor, First, Added, Single, Multiplied, Bare, Raised, Numeral, Variable, of_both, of_one, variable_of, sum_value, term_value, factor_value}
 use Rattle.report_text.proofs.NamePlaces.{place_among}
 use Rattle.report_text.proofs.Terms.{all_zero}
 use Rattle.report_text.proofs.Trees.{power_tree, power_trees, factor_trees, times_factors, product_tree, term_tree, plus_terms, poly_tree}
@@ -88,7 +88,7 @@ module _ (s : Setting) (many : 1 < s.modulus) where
             ∙ (let same = h.places in ap Some (omega arith)))
 
     -- a term with one more power
-    power_value : (front : List (List ℕ)) (x : List ℕ) (xs : List (List ℕ)) (l : Monomial) (e : ℕ) (m : Monomial) (c : ℕ) (t : Term)
+    power_value : (front : List (List ℕ)) (x : List ℕ) (xs : List (List ℕ)) (l : Monomial) (e : ℕ) (m : Monomial) (c : ℕ) (t : TermTree)
         → Stand s front (x ∷ xs) l (e ∷ m) → e ≢ 0 → 0 < c → c < s.modulus
         → term_value s t ≡ Some (term (l ++ 0 ∷ replicate (length m) 0) c ∷ [])
         → term_value s (Multiplied t (power_tree x e)) ≡ Some (term (l ++ e ∷ replicate (length m) 0) c ∷ [])
@@ -102,7 +102,7 @@ module _ (s : Setting) (many : 1 < s.modulus) where
         product = next_power l (length m) s.variables e (let same = h.variables in omega arith)
 
     -- a term times all powers from a place on
-    powers_value : (front xs : List (List ℕ)) (l m : Monomial) (c : ℕ) (t : Term)
+    powers_value : (front xs : List (List ℕ)) (l m : Monomial) (c : ℕ) (t : TermTree)
         → Stand s front xs l m → 0 < c → c < s.modulus
         → term_value s t ≡ Some (term (l ++ replicate (length m) 0) c ∷ [])
         → term_value s (times_factors t (power_trees xs m)) ≡ Some (term (l ++ m) c ∷ [])
@@ -115,7 +115,7 @@ module _ (s : Setting) (many : 1 < s.modulus) where
         ∙ ap (λ k. Some (term k c ∷ [])) (append_assoc l (e ∷ []) m))
       where
         choice : (b : Bool) → eqb e 0 ≡ b
-            → ((u : Term) → term_value s u ≡ Some (term (l ++ e ∷ replicate (length m) 0) c ∷ []) → term_value s (times_factors u (power_trees xs m)) ≡ Some (term (l ++ e ∷ m) c ∷ []))
+            → ((u : TermTree) → term_value s u ≡ Some (term (l ++ e ∷ replicate (length m) 0) c ∷ []) → term_value s (times_factors u (power_trees xs m)) ≡ Some (term (l ++ e ∷ m) c ∷ []))
             → term_value s (times_factors t (cond b (power_trees xs m) (power_tree x e ∷ power_trees xs m))) ≡ Some (term (l ++ e ∷ m) c ∷ [])
         choice true none later = later t (value ∙ ap (λ d. Some (term (l ++ d ∷ replicate (length m) 0) c ∷ [])) (sym (eqb-true e 0 none)))
         choice false some later = later (Multiplied t (power_tree x e)) (power_value front x xs l e m c t h (eqb-false e 0 some) positive below value)

@@ -8,7 +8,7 @@ use Rattle.polynomials.specs.Polynomials.{Polynomial}
 use Rattle.polynomials.specs.Polynomials as poly
 use Rattle.system_text.specs.Characters.{is_name, is_name_character}
 use Rattle.system_text.specs.Tokens.{Token, Name, Number, Plus, Times, Power}
-use Rattle.system_text.specs.Grammar.{Sum, Term, Factor, First, Added, Single, Multiplied, Bare, Raised, Numeral, Variable, sum_tokens, term_tokens, factor_tokens}
+use Rattle.system_text.specs.Grammar.{Sum, TermTree, Factor, First, Added, Single, Multiplied, Bare, Raised, Numeral, Variable, sum_tokens, term_tokens, factor_tokens}
 use Rattle.report_text.specs.Polynomials.{power_text, power_texts, factor_texts, product_text, term_text, poly_text}
 use Rattle.report_text.proofs.Tokens.{HaveTokens, EndsRun, ends_number, name_tokens, decimal_tokens, times_tokens, power_tokens, plus_tokens}
 
@@ -28,17 +28,17 @@ factor_trees c [] = Bare (Numeral (decimal c)) ∷ []
 factor_trees c (power ∷ powers) = cond (eqb c 1) (power ∷ powers) (Bare (Numeral (decimal c)) ∷ power ∷ powers)
 
 -- a term and further factors, from left to right
-abbrev pub times_factors : Term → List Factor → Term
+abbrev pub times_factors : TermTree → List Factor → TermTree
 times_factors t [] = t
 times_factors t (f ∷ fs) = times_factors (Multiplied t f) fs
 
 -- the product of some factors; of none it isn't asked for
-abbrev pub product_tree : List Factor → Term
+abbrev pub product_tree : List Factor → TermTree
 product_tree [] = Single (Bare (Numeral (48 ∷ [])))
 product_tree (f ∷ fs) = times_factors (Single f) fs
 
 -- a term of a polynomial
-abbrev pub term_tree : List (List ℕ) → poly.Term → Term
+abbrev pub term_tree : List (List ℕ) → poly.Term → TermTree
 term_tree names t = product_tree (factor_trees t.1 (power_trees names t.0))
 
 -- a sum and further terms, from left to right
@@ -52,7 +52,7 @@ poly_tree names [] = First (Single (Bare (Numeral (48 ∷ []))))
 poly_tree names (t ∷ f) = plus_terms names (First (term_tree names t)) f
 
 -- the tokens of further factors and terms
-times_factors_tokens : (t : Term) (fs : List Factor) → term_tokens (times_factors t fs) ≡ term_tokens t ++ flat_map (λ f. Times ∷ factor_tokens f) fs
+times_factors_tokens : (t : TermTree) (fs : List Factor) → term_tokens (times_factors t fs) ≡ term_tokens t ++ flat_map (λ f. Times ∷ factor_tokens f) fs
 times_factors_tokens t [] = sym (append-nil (term_tokens t))
 times_factors_tokens t (f ∷ fs) = times_factors_tokens (Multiplied t f) fs ∙ append_assoc (term_tokens t) (Times ∷ factor_tokens f) (flat_map (λ g. Times ∷ factor_tokens g) fs)
 

@@ -2,3 +2,4 @@ pub mod Statuses
 pub mod Polynomials
 pub mod Lines
 pub mod Laws
+pub mod Answers

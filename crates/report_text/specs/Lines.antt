@@ -8,6 +8,10 @@ use Rattle.split_paths.specs.declared.event.Why.{Why}
 use Rattle.split_paths.specs.declared.event.Why.TheVariants.{Steps, Size}
 use Rattle.report_text.specs.Polynomials.{poly_text}
 
+-- a polynomial that must not vanish
+abbrev pub nonzero_line : List (List ℕ) → Polynomial → List ℕ
+nonzero_line names f = codes "nonzero " ++ (poly_text names f ++ codes "\n")
+
 -- the path of a chain
 abbrev pub chain_line : List ℕ → List ℕ
 chain_line path = codes "chain " ++ (path_text path ++ codes "\n")

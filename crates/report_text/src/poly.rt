@@ -1,7 +1,8 @@
 ghost use Rattle.std.specs.Prelude.{◌≡◌, ℕ, ◌≤◌, [], ◌∷◌, ◌++◌, length, map, IfOk, OnOk, string_bytes};
 ghost use Rattle.polynomials.specs.Monomials.{exponent_of};
 ghost use Rattle.polynomials.specs.Views.{degree_in};
-ghost use Rattle.report_text.specs.Laws.{SpellsOver};
+ghost use Rattle.report_text.specs.Laws.{SpellsOver, SpellsNonzeroOver};
+ghost use Rattle.report_text.specs.Lines.{nonzero_line};
 ghost use Rattle.report_text.specs.Polynomials.{power_text, power_texts, powers_text, term_text, poly_text, IsInLeast};
 
 use mono_words::{Mono, VARS};
@@ -21,6 +22,18 @@ pub fn print_poly(alloc: Global, names: &Names, f: &Poly) -> Result<String, Allo
     let mut text = String::new(alloc);
     write_poly(&mut text, names, f)?;
     Ok(text)
+}
+
+/// The line of a polynomial that must not vanish.
+pub fn print_nonzero(alloc: Global, names: &Names, f: &Poly) -> Result<String, AllocError>
+    requires { IsInLeast (length names.now) f.now }
+    ensures text { IfOk result (λ text.
+        string_bytes text ≡ nonzero_line (map string_bytes names.now) f.now) }
+    ensures spells { IfOk result (λ text.
+        SpellsNonzeroOver VARS (map string_bytes names.now) f.now (string_bytes text)) }
+{
+    let poly = print_poly(alloc, names, f)?;
+    format!(in alloc; "nonzero {poly}\n")
 }
 
 /// Does nothing: its clause tells that exponents have 16 bits.

@@ -134,6 +134,35 @@ fn coefficients_other_than_one_are_printed(rt: HostRuntime) -> Result<(), Fail> 
     Ok(())
 }
 
+/// The nonzero line of a sum of terms, and no text where a variable has no name.
+fn nonzero(alloc: Global, p: u64, names: &str, terms: &[(u32, [u16; 4])]) -> Result<String, Fail> {
+    let names = names_of(alloc, names)?;
+    let f = poly(alloc, Field::of(p)?, terms)?;
+    if !is_in_least(names.count(), &f) {
+        return Ok(String::new(alloc));
+    }
+    Ok(print_nonzero(alloc, &names, &f)?)
+}
+
+#[test]
+fn polynomials_that_must_not_vanish_have_a_line_each(rt: HostRuntime) -> Result<(), Fail> {
+    let alloc = rt.alloc();
+    let line = nonzero(alloc, 5, "x", &[(1, [1, 0, 0, 0])])?;
+    assert_eq!(rt; line.as_str(), "nonzero x\n");
+    let line = nonzero(alloc, 5, "x", &[])?;
+    assert_eq!(rt; line.as_str(), "nonzero 0\n");
+    let line = nonzero(alloc, 5, "x", &[(3, [0, 0, 0, 0])])?;
+    assert_eq!(rt; line.as_str(), "nonzero 3\n");
+    let line = nonzero(
+        alloc,
+        101,
+        "a b x y",
+        &[(1, [1, 0, 0, 0]), (100, [0, 1, 0, 0])],
+    )?;
+    assert_eq!(rt; line.as_str(), "nonzero 100*b + a\n");
+    Ok(())
+}
+
 #[test]
 fn constants_are_printed_as_numbers(rt: HostRuntime) -> Result<(), Fail> {
     let alloc = rt.alloc();
@@ -167,7 +196,10 @@ fn powers_of_sixteen_variables_stand_in_order(rt: HostRuntime) -> Result<(), Fai
     let f = Poly::from_terms(alloc, Field::of(65537)?, &[(m, 1)])?;
     if is_in_least(names.count(), &f) {
         let printed = print_poly(alloc, &names, &f)?;
-        assert_eq!(rt; printed.as_str(), "a*b^2*c^3*e*f*g^65535*h^9*k^4*l*n^12*o*p^65535");
+        assert_eq!(rt;
+            printed.as_str(),
+            "a*b^2*c^3*e*f*g^65535*h^9*k^4*l*n^12*o*p^65535"
+        );
     }
     assert!(rt; is_in_least(VARS, &f));
     Ok(())

@@ -13,12 +13,12 @@ use Rattle.polynomials.proofs.SamePolynomials.{same_from_sums, SameSums-from_one
 use Rattle.sparse_poly.specs.Falling.{AreResidues}
 use Rattle.sparse_poly.proofs.Places.{drop_item}
 use Rattle.system_text.specs.Sums.{with_last}
-use Rattle.system_parser.specs.Sums.{signed_residue, signed_terms}
+use Rattle.system_parser.specs.Sums.{negated_if, signed_terms}
 
 -- one term more was appended
-pub signed_turn : (p : ℕ) (sign : Bool) (out rest all : List Term) (k : ℕ) (t : Term) → k < length rest → t ≡ get_or rest k t → out ++ signed_terms p sign (drop k rest) ≡ all → (out ++ term t.0 (signed_residue p sign t.1) ∷ []) ++ signed_terms p sign (drop (k + 1) rest) ≡ all
+pub signed_turn : (p : ℕ) (sign : Bool) (out rest all : List Term) (k : ℕ) (t : Term) → k < length rest → t ≡ get_or rest k t → out ++ signed_terms p sign (drop k rest) ≡ all → (out ++ term t.0 (negated_if p sign t.1) ∷ []) ++ signed_terms p sign (drop (k + 1) rest) ≡ all
 signed_turn p sign out rest all k t below at h =
-    append_assoc out (term t.0 (signed_residue p sign t.1) ∷ []) (signed_terms p sign (drop (k + 1) rest))
+    append_assoc out (term t.0 (negated_if p sign t.1) ∷ []) (signed_terms p sign (drop (k + 1) rest))
     ∙ (ap (λ l. out ++ signed_terms p sign l) (sym (drop_item rest k t below at)) ∙ h)
 
 -- with their own signs they are themselves, and with the other their negative
@@ -37,7 +37,7 @@ pub signed_terms_small : (p n : ℕ) (sign : Bool) (f : Polynomial) → IsPolyno
 signed_terms_small p n sign [] i = tt
 signed_terms_small p n sign (t ∷ f) i = (small sign t.1 i.1 i.2, signed_terms_small p n sign f i.4)
   where
-    small : (s : Bool) (c : ℕ) → 0 < c → c < p → signed_residue p s c < p
+    small : (s : Bool) (c : ℕ) → 0 < c → c < p → negated_if p s c < p
     small true c some below = mod-lt (p - c) (omega arith)
     small false c some below = below
 

@@ -11,17 +11,21 @@ use Rattle.system_parser.specs.declared.sums.Mode.TheVariants.{AtSum, AtFactor, 
 use Rattle.system_parser.specs.declared.sums.Reading.{Reading}
 
 -- the residue c modulo p, or its negative
-abbrev pub signed_residue : ℕ → Bool → ℕ → ℕ
-signed_residue p true c = (p - c) % p
-signed_residue p false c = c
+abbrev pub negated_if : ℕ → Bool → ℕ → ℕ
+negated_if p true c = (p - c) % p
+negated_if p false c = c
 
 -- the terms, or their negatives modulo p
 abbrev pub signed_terms : ℕ → Bool → List Term → List Term
-signed_terms p is_negative ts = map (λ t. term t.0 (signed_residue p is_negative t.1)) ts
+signed_terms p is_negative ts = map (λ t. term t.0 (negated_if p is_negative t.1)) ts
 
 -- a sum that is open, whose terms are collected
 abbrev pub frame_of : ℕ → Frame → TextFrame
-frame_of p f = record { sum = collected p f.terms.items; is_negative = f.is_negative; product = f.product }
+frame_of p f = record {
+  sum = collected p f.terms.items;
+  is_negative = f.is_negative;
+  product = f.product;
+}
 
 -- the sums that are open round one
 abbrev pub frames_of : ℕ → List Frame → List TextFrame
@@ -37,7 +41,11 @@ mode_of (AfterFactor f) = TextMode.AfterFactor f
 
 -- a reading modulo p
 abbrev pub reading_of : ℕ → Reading → TextReading
-reading_of p r = record { outer = frames_of p r.outer; frame = frame_of p r.frame; mode = mode_of r.mode }
+reading_of p r = record {
+  outer = frames_of p r.outer;
+  frame = frame_of p r.frame;
+  mode = mode_of r.mode;
+}
 
 -- each term has its exponents and a residue as its coefficient, and the product is canonical
 pub record IsFrame (p : ℕ) (f : Frame) : Type 0 where

@@ -3,7 +3,7 @@ ghost use Rattle.std.specs.Str.Parse.{AllDigits};
 ghost use Rattle.polynomials.specs.Polynomials.{IsPolynomial};
 ghost use Rattle.polynomials.specs.Fits.{power_within};
 ghost use Rattle.system_text.specs.Limits.{text_width};
-ghost use Rattle.system_text.specs.Sums.{times_within, variable_at, number_base, at_factor, after_factor_at, raised, exponent_at, at_exponent, place_of_name};
+ghost use Rattle.system_text.specs.Sums.{with_factor, variable_at, number_base, at_factor, after_factor_at, power_factor, exponent_at, at_exponent, place_of_name};
 ghost use Rattle.system_parser.specs.Tokens.{token_of, placed_of, IsSpelled};
 ghost use Rattle.system_parser.specs.Readings.{Gives};
 ghost use Rattle.system_parser.specs.Sums.{frame_of, frames_of, reading_of, IsReading};
@@ -99,7 +99,7 @@ impl Reading {
         requires reading { IsReading over.now.field self.now }
         requires over { IsPolynomial over.now.field VARS value }
         ensures value { IfOk result (λ r. r ≡
-            times_within over.now.field self.now.frame.product value) }
+            with_factor over.now.field self.now.frame.product value) }
         ensures over { IfOk result (λ r. IfSome r (IsPolynomial over.now.field VARS)) }
     {
         match &self.frame.product {
@@ -167,7 +167,7 @@ impl Reading {
         requires reading { IsReading over.now.field self.old }
         requires over { IsPolynomial over.now.field VARS value }
         ensures state { Gives (λ _. reading_of over.now.field self.new) result
-            (raised (setting_over over.now) (frames_of over.now.field self.old.outer)
+            (power_factor (setting_over over.now) (frames_of over.now.field self.old.outer)
             (frame_of over.now.field self.old.frame)
             last (power_within over.now.field VARS text_width value e)) }
         ensures reading { OnOk result (IsReading over.now.field self.new) }
@@ -187,7 +187,7 @@ impl Reading {
         ensures state { Gives (λ _. reading_of over.now.field self.new) result
             (after_factor_at (frames_of over.now.field self.old.outer)
             (frame_of over.now.field self.old.frame)
-            last (times_within over.now.field self.old.frame.product value)) }
+            last (with_factor over.now.field self.old.frame.product value)) }
         ensures reading { OnOk result (IsReading over.now.field self.new) }
     {
         match self.times(over, value)? {

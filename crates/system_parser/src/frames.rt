@@ -1,7 +1,7 @@
 ghost use Rattle.std.specs.Prelude.{◌≡◌, ◌<◌, ◌++◌, ℕ, IfOk, OnOk};
 ghost use Rattle.polynomials.specs.Polynomials.{IsPolynomial};
 ghost use Rattle.system_text.specs.Sums.{empty_frame, with_last};
-ghost use Rattle.system_parser.specs.Sums.{frame_of, IsFrame, signed_terms, signed_residue};
+ghost use Rattle.system_parser.specs.Sums.{frame_of, IsFrame, signed_terms, negated_if};
 
 use field_table::Field;
 use mono_words::{Mono, VARS};
@@ -76,7 +76,7 @@ fn append_signed(
 /// The residue, or its negative.
 fn signed(f: Field, is_negative: bool, c: u32) -> u32
     requires { c < f }
-    ensures { result ≡ signed_residue f is_negative c }
+    ensures { result ≡ negated_if f is_negative c }
 {
     if is_negative { f.neg(c) } else { c }
 }

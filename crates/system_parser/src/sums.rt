@@ -1,6 +1,6 @@
 ghost use Rattle.std.specs.Prelude.{◌≡◌, ◌≤◌, ℕ, length, IfOk, OnOk};
 ghost use Rattle.polynomials.specs.Polynomials.{IsPolynomial};
-ghost use Rattle.system_text.specs.Sums.{start, opened_at, at_sum, closed_at, next_term, after_factor, after_bare, after_base_token, step, ended_with, ended, read_tokens, read_sum};
+ghost use Rattle.system_text.specs.Sums.{start, opened_at, at_sum, closed_at, next_term, after_factor, after_bare, after_base_token, step, ended_with, line_ended, read_tokens, read_sum};
 ghost use Rattle.system_text.specs.Lines.{is_nonzero_line, is_nonzero_word, read_nonzero};
 ghost use Rattle.system_parser.specs.Tokens.{token_of, placed_of, IsSpelled};
 ghost use Rattle.system_parser.specs.Readings.{Gives};
@@ -108,7 +108,8 @@ fn read_tokens(
     end: u32,
 ) -> Result<Poly, LineFault>
     requires { length over.now.names ≤ VARS }
-    ensures value { Gives (λ f. f) result (read_tokens (setting_over over.now) end tokens.entry start) }
+    ensures value { Gives (λ f. f) result
+        (read_tokens (setting_over over.now) end tokens.entry start) }
     ensures over { IfOk result (IsPolynomial over.now.field VARS) }
 {
     let mut reading = Reading::start(alloc);
@@ -303,7 +304,7 @@ impl Reading {
     fn ended(mut self, over: &System, end: u32) -> Result<Poly, LineFault>
         requires reading { IsReading over.now.field self }
         ensures value { Gives (λ f. f) result
-            (ended (setting_over over.now) end (reading_of over.now.field self)) }
+            (line_ended (setting_over over.now) end (reading_of over.now.field self)) }
         ensures over { IfOk result (IsPolynomial over.now.field VARS) }
     {
         match mem::replace(&mut self.mode, Mode::AtFactor) {

@@ -20,23 +20,23 @@ fn check_refusal(rt: &impl Abort, alloc: Global, text: &str, refusal: (u8, u32, 
     }
 }
 
-/// Checks that a text is a system with these polynomials.
-fn check_inputs(
+/// Checks that a text is a system with these names and polynomials.
+fn check_system(
     rt: &impl Abort,
     alloc: Global,
     text: &str,
-    inputs: &str,
+    system_text: &str,
 ) -> Result<(), AllocError> {
     let bytes = text.as_bytes();
     assert!(rt; bytes.len() <= MOST_BYTES);
     match parse(alloc, bytes) {
-        Ok(system) => assert_eq!(rt; shown(alloc, &system)?.as_str(), inputs, "of {text:?}"),
+        Ok(system) => assert_eq!(rt; shown(alloc, &system)?.as_str(), system_text, "of {text:?}"),
         Err(_) => panic!(rt; "{text:?} is refused"),
     }
     Ok(())
 }
 
-/// The names, and then the terms of each polynomial.
+/// The names, and then the terms of each polynomial, behind `!` of one that must not vanish.
 fn shown(alloc: Global, system: &System) -> Result<String, AllocError> {
     let mut text = String::new(alloc);
     for name in system.names.iter() {
@@ -45,6 +45,10 @@ fn shown(alloc: Global, system: &System) -> Result<String, AllocError> {
     }
     for f in system.inputs.iter() {
         text.push_str("| ")?;
+        add_terms(alloc, &mut text, f)?;
+    }
+    for f in system.nonzero.iter() {
+        text.push_str("! ")?;
         add_terms(alloc, &mut text, f)?;
     }
     Ok(text)
@@ -97,10 +101,30 @@ fn a_head_line_that_is_none_is_refused(rt: HostRuntime) -> Result<(), Fail> {
         ("prime 5\norder nonzero x\n", 4, 2, 7),
         ("prime 5\norder x 1\n", 4, 2, 9),
         ("prime 5\norder _x\n", 4, 2, 7),
-        ("prime 5\norder a b c d e f g h i j k l m n o p q\n", 5, 2, 39),
-        ("prime 5\norder a b c d e f g h i j k l m n o p prime\n", 4, 2, 39),
-        ("prime 5\norder a b c d e f g h i j k l m n o p a\n", 5, 2, 39),
-        ("prime 5\norder a b c d e f g h i j k l m n o p +\n", 4, 2, 39),
+        (
+            "prime 5\norder a b c d e f g h i j k l m n o p q\n",
+            5,
+            2,
+            39,
+        ),
+        (
+            "prime 5\norder a b c d e f g h i j k l m n o p prime\n",
+            4,
+            2,
+            39,
+        ),
+        (
+            "prime 5\norder a b c d e f g h i j k l m n o p a\n",
+            5,
+            2,
+            39,
+        ),
+        (
+            "prime 5\norder a b c d e f g h i j k l m n o p +\n",
+            4,
+            2,
+            39,
+        ),
         ("prime 5\norder x x\n", 6, 2, 9),
         ("prime 5\n#\norder x y  x", 6, 3, 12),
         ("prime 5\nprime 5\n", 4, 2, 1),
@@ -181,6 +205,61 @@ fn a_byte_that_is_no_text_is_refused(rt: HostRuntime) -> Result<(), Fail> {
 }
 
 #[test]
+fn a_nonzero_line_that_is_none_is_refused(rt: HostRuntime) -> Result<(), Fail> {
+    for (text, number, line, byte) in [
+        ("nonzero x\n", 2, 1, 1),
+        ("prime 5\nnonzero x\norder x\n", 4, 2, 1),
+        ("prime 5\norder x\nnonzero", 8, 3, 8),
+        ("prime 5\norder x\nnonzero \n", 8, 3, 9),
+        ("prime 5\norder x\nx + nonzero\n", 7, 3, 5),
+        ("prime 5\norder x\n nonzero nonzero\n", 7, 3, 10),
+        ("prime 5\norder x\nnonzero x nonzero\n", 8, 3, 11),
+        ("prime 5\norder x\n(nonzero x)\n", 7, 3, 2),
+        ("prime 5\norder x\nnonzeros x\n", 7, 3, 1),
+        ("prime 5\norder x\nnonzero x*y\n", 7, 3, 11),
+        ("prime 5\norder x\nnonzero + x\n", 8, 3, 9),
+        ("prime 5\norder x\nnonzero^2\n", 8, 3, 8),
+        ("prime 5\norder x\nnonzero (x\n", 8, 3, 11),
+        ("prime 5\norder x\nnonzero 1 2\n", 8, 3, 11),
+        ("prime 5\norder x\nnonzeroé\n", 1, 3, 8),
+        ("prime 5\norder x\nnonzero 1000000000000000000\n", 9, 3, 9),
+        ("prime 5\norder x\n# a\nx\nnonzero x^65536\n", 10, 5, 11),
+        ("prime 5\norder x\nnonzero (x)^65\n", 10, 3, 13),
+        ("prime 5\norder x\nnonzero x^65535*x\n", 11, 3, 17),
+    ] {
+        check_refusal(&rt, rt.alloc(), text, (number, line, byte));
+    }
+    Ok(())
+}
+
+#[test]
+fn nonzero_lines_stand_anywhere_after_the_order(rt: HostRuntime) -> Result<(), Fail> {
+    for (text, system) in [
+        (
+            "prime 5\norder x\nx^2 + 4*x\nnonzero x\n",
+            "x | 1*v0^2 4*v0^1 ! 1*v0^1 ",
+        ),
+        (
+            "prime 5\norder x y\nnonzero x\nx*y\n",
+            "x y | 1*v0^1*v1^1 ! 1*v0^1 ",
+        ),
+        ("prime 5\norder x\nx\nnonzero 5\n", "x | 1*v0^1 ! "),
+        ("prime 5\norder x\nx\nnonzero 8\n", "x | 1*v0^1 ! 3 "),
+        (
+            "prime 5\norder x y\nnonzero y\nx\n\n nonzero(x)\n# a\nx*y\n  nonzero  y",
+            "x y | 1*v0^1 | 1*v0^1*v1^1 ! 1*v1^1 ! 1*v0^1 ! 1*v1^1 ",
+        ),
+        (
+            "prime 5\norder nonzeros\nnonzeros\nnonzero nonzeros\n",
+            "nonzeros | 1*v0^1 ! 1*v0^1 ",
+        ),
+    ] {
+        check_system(&rt, rt.alloc(), text, system)?;
+    }
+    Ok(())
+}
+
+#[test]
 fn what_passes_a_limit_is_refused(rt: HostRuntime) -> Result<(), Fail> {
     for (text, number, line, byte) in [
         ("prime 5\norder x\n1000000000000000000*x\n", 9, 3, 1),
@@ -245,7 +324,10 @@ fn a_text_within_the_limits_is_its_system(rt: HostRuntime) -> Result<(), Fail> {
             "prime 5\norder x\n((((((((((((((((((((((((((((((((((((((((((((((((((((((((((((((((x))))))))))))))))))))))))))))))))))))))))))))))))))))))))))))))))\n",
             "x | 1*v0^1 ",
         ),
-        ("prime 5\norder a b c d e f g h i j k l m n o p\n", "a b c d e f g h i j k l m n o p "),
+        (
+            "prime 5\norder a b c d e f g h i j k l m n o p\n",
+            "a b c d e f g h i j k l m n o p ",
+        ),
         ("prime 5\norder x\n", "x "),
         ("prime 65537\norder x", "x "),
         (" # a\n\n  prime 5  \n #b\n order x \n", "x "),
@@ -289,7 +371,7 @@ fn a_text_within_the_limits_is_its_system(rt: HostRuntime) -> Result<(), Fail> {
         ),
         ("prime 5\norder x\nx ^ 2 * 3\n", "x | 3*v0^2 "),
     ] {
-        check_inputs(&rt, rt.alloc(), text, inputs)?;
+        check_system(&rt, rt.alloc(), text, inputs)?;
     }
     Ok(())
 }
@@ -300,6 +382,6 @@ fn a_text_of_the_greatest_length_is_read(rt: HostRuntime) -> Result<(), Fail> {
     for _ in text.len()..MOST_BYTES {
         text.push_str(".")?;
     }
-    check_inputs(&rt, rt.alloc(), text.as_str(), "x ")?;
+    check_system(&rt, rt.alloc(), text.as_str(), "x ")?;
     Ok(())
 }

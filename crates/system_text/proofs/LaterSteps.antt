@@ -7,7 +7,7 @@ use Rattle.polynomials.specs.Fits.{power_within}
 use Rattle.system_text.specs.Tokens.{Token, Placed, Number, Plus, Minus, Times, Power, Open, Close}
 use Rattle.system_text.specs.Faults.{Fault, fault}
 use Rattle.system_text.specs.Limits.{most_digits, most_power, text_width}
-use Rattle.system_text.specs.Sums.{Setting, Frame, Mode, Reading, AtSum, AtFactor, AfterBase, AtExponent, AfterFactor, times_within, with_last, closed_at, after_factor, after_factor_at, after_base_token, raised, at_exponent, step_in, step}
+use Rattle.system_text.specs.Sums.{Setting, Frame, Mode, Reading, AtSum, AtFactor, AfterBase, AtExponent, AfterFactor, with_factor, with_last, closed_at, after_factor, after_factor_at, after_base_token, power_factor, at_exponent, step_in, step}
 use Rattle.system_text.specs.Grammar.{Sum, Bare, Raised, Parenthesis, sum_tokens, term_tokens, factor_tokens, base_tokens, of_one}
 use Rattle.system_text.proofs.PartialTrees.{Adding, TakingAway, before_tokens, factors_tokens, Part, outer_tokens, OuterMeans, Partial, EndsWithBase, EndsWithTerm, EndsWithSum, Means, ReadingMeans, term_from_factor, sum_from_term}
 use Rattle.system_text.proofs.Passed.{ok_after_test}
@@ -19,22 +19,22 @@ closed_tokens xs a b c d e = rw e (simp (append_assoc, append-nil))
 
 module _ (s : Setting) where
   -- a power ends a factor
-  raised_means : (xs : List Token) (outer : List Frame) (frame : Frame) (f : Polynomial) (most last : ℕ) (digits : List ℕ) (o : Option Polynomial) (next : Reading) → EndsWithBase s xs outer frame f most (Power ∷ []) → length digits ≤ most_digits → digits_value 10 digits ≤ most → power_within s.modulus s.variables text_width f (digits_value 10 digits) ≡ o → raised s outer frame last o ≡ Ok next → ReadingMeans s (xs ++ Number digits ∷ []) next
+  raised_means : (xs : List Token) (outer : List Frame) (frame : Frame) (f : Polynomial) (most last : ℕ) (digits : List ℕ) (o : Option Polynomial) (next : Reading) → EndsWithBase s xs outer frame f most (Power ∷ []) → length digits ≤ most_digits → digits_value 10 digits ≤ most → power_within s.modulus s.variables text_width f (digits_value 10 digits) ≡ o → power_factor s outer frame last o ≡ Ok next → ReadingMeans s (xs ++ Number digits ∷ []) next
   raised_means xs outer frame f most last digits None next h few small power e = absurd cc
-  raised_means xs outer frame f most last digits (Some g) next h few small power e = multiplied_in (times_within s.modulus frame.product g) refl e
+  raised_means xs outer frame f most last digits (Some g) next h few small power e = multiplied_in (with_factor s.modulus frame.product g) refl e
     where
       factor : Partial s (xs ++ Number digits ∷ []) outer frame (factor_tokens (Raised h.base digits))
       factor = subst (Partial s (xs ++ Number digits ∷ []) outer frame) (append_assoc (base_tokens h.base) (Power ∷ []) (Number digits ∷ [])) (further s xs outer frame (base_tokens h.base ++ Power ∷ []) (Number digits) h.rest)
 
-      multiplied_in : (o : Option Polynomial) → times_within s.modulus frame.product g ≡ o → after_factor_at outer frame last o ≡ Ok next → ReadingMeans s (xs ++ Number digits ∷ []) next
+      multiplied_in : (o : Option Polynomial) → with_factor s.modulus frame.product g ≡ o → after_factor_at outer frame last o ≡ Ok next → ReadingMeans s (xs ++ Number digits ∷ []) next
       multiplied_in None product d = absurd cc
       multiplied_in (Some k) product d = at_next s (xs ++ Number digits ∷ []) (record { outer = outer; frame = frame; mode = AfterFactor k }) next (term_from_factor s (xs ++ Number digits ∷ []) outer frame (Raised h.base digits) g k factor (ap (of_one (λ x. power_within s.modulus s.variables text_width x (digits_value 10 digits))) h.value ∙ power) (h.within, few, subst (λ n. digits_value 10 digits ≤ n) h.most_is small) product) d
 
   exponent_means : (xs : List Token) (outer : List Frame) (frame : Frame) (f : Polynomial) (most : ℕ) (t : Placed) (x : Token) (next : Reading) → EndsWithBase s xs outer frame f most (Power ∷ []) → at_exponent s outer frame f most t x ≡ Ok next → ReadingMeans s (xs ++ x ∷ []) next
   exponent_means xs outer frame f most t (Number digits) next h e =
       let power : Option Polynomial = power_within s.modulus s.variables text_width f (digits_value 10 digits) in
-      let first = ok_after_test (ltb most_digits (length digits)) (fault 9 t.first) (cond (ltb most (digits_value 10 digits)) (Err (fault 10 t.first)) (raised s outer frame t.last power)) next e in
-      let second = ok_after_test (ltb most (digits_value 10 digits)) (fault 10 t.first) (raised s outer frame t.last power) next first.1 in
+      let first = ok_after_test (ltb most_digits (length digits)) (fault 9 t.first) (cond (ltb most (digits_value 10 digits)) (Err (fault 10 t.first)) (power_factor s outer frame t.last power)) next e in
+      let second = ok_after_test (ltb most (digits_value 10 digits)) (fault 10 t.first) (power_factor s outer frame t.last power) next first.1 in
       raised_means xs outer frame f most t.last digits power next h (ltb-false most_digits (length digits) first.0) (ltb-false most (digits_value 10 digits) second.0) refl second.1
   exponent_means xs outer frame f most t _ next h e = absurd cc
 
@@ -101,10 +101,10 @@ module _ (s : Setting) where
     after_factor_means xs outer frame f t _ next h e = absurd cc
 
     -- a factor without a power ends a term
-    pub bare_term : (xs : List Token) (outer : List Frame) (frame : Frame) (f g : Polynomial) (most : ℕ) → EndsWithBase s xs outer frame f most [] → times_within s.modulus frame.product f ≡ Some g → EndsWithTerm s xs outer frame g
+    pub bare_term : (xs : List Token) (outer : List Frame) (frame : Frame) (f g : Polynomial) (most : ℕ) → EndsWithBase s xs outer frame f most [] → with_factor s.modulus frame.product f ≡ Some g → EndsWithTerm s xs outer frame g
     bare_term xs outer frame f g most h product = term_from_factor s xs outer frame (Bare h.base) f g (subst (Partial s xs outer frame) (append-nil (base_tokens h.base)) h.rest) h.value h.within product
 
-    after_bare_means : (xs : List Token) (outer : List Frame) (frame : Frame) (f : Polynomial) (most last : ℕ) (t : Placed) (x : Token) (next : Reading) (o : Option Polynomial) → EndsWithBase s xs outer frame f most [] → t.token ≡ x → times_within s.modulus frame.product f ≡ o → elim o as (λ _. Result Reading Fault) [ None ↦ Err (fault 11 last) | Some g ↦ after_factor s outer frame g t t.token ] ≡ Ok next → ReadingMeans s (xs ++ x ∷ []) next
+    after_bare_means : (xs : List Token) (outer : List Frame) (frame : Frame) (f : Polynomial) (most last : ℕ) (t : Placed) (x : Token) (next : Reading) (o : Option Polynomial) → EndsWithBase s xs outer frame f most [] → t.token ≡ x → with_factor s.modulus frame.product f ≡ o → elim o as (λ _. Result Reading Fault) [ None ↦ Err (fault 11 last) | Some g ↦ after_factor s outer frame g t t.token ] ≡ Ok next → ReadingMeans s (xs ++ x ∷ []) next
     after_bare_means xs outer frame f most last t x next None h d product e = absurd cc
     after_bare_means xs outer frame f most last t x next (Some g) h d product e = subst (λ y. ReadingMeans s (xs ++ y ∷ []) next) d (after_factor_means xs outer frame g t t.token next (bare_term xs outer frame f g most h product) e)
 
@@ -116,8 +116,8 @@ module _ (s : Setting) where
       most_is = h.most_is;
       within = h.within;
     }) e
-    after_base_means xs outer frame f most last t Plus next h d e = after_bare_means xs outer frame f most last t Plus next (times_within s.modulus frame.product f) h d refl e
-    after_base_means xs outer frame f most last t x next h d e = after_bare_means xs outer frame f most last t x next (times_within s.modulus frame.product f) h d refl e
+    after_base_means xs outer frame f most last t Plus next h d e = after_bare_means xs outer frame f most last t Plus next (with_factor s.modulus frame.product f) h d refl e
+    after_base_means xs outer frame f most last t x next h d e = after_bare_means xs outer frame f most last t x next (with_factor s.modulus frame.product f) h d refl e
 
     -- each token keeps what the reading means
     step_in_means : (xs : List Token) (outer : List Frame) (frame : Frame) (t : Placed) (m : Mode) (next : Reading) → Means s xs outer frame m → step_in s outer frame t m ≡ Ok next → ReadingMeans s (xs ++ t.token ∷ []) next

@@ -5,8 +5,8 @@ use Rattle.polynomials.proofs.PolynomialLaws.{zero-sum_of}
 use Rattle.polynomials.proofs.Canonical.{IsPolynomial-negative_of}
 use Rattle.system_text.specs.Tokens.{Token, Plus, Minus, Times, Power, Open}
 use Rattle.system_text.specs.Limits.{most_depth}
-use Rattle.system_text.specs.Sums.{Setting, Frame, Mode, Reading, AtSum, AtFactor, AfterBase, AtExponent, AfterFactor, empty_frame, times_within, with_last}
-use Rattle.system_text.specs.Grammar.{Sum, Term, Factor, Base, First, FirstNegative, Added, TakenAway, Single, Multiplied, sum_tokens, term_tokens, factor_tokens, base_tokens, sum_value, term_value, factor_value, base_value, most_of, IsSumWithin, IsTermWithin, IsFactorWithin, IsBaseWithin}
+use Rattle.system_text.specs.Sums.{Setting, Frame, Mode, Reading, AtSum, AtFactor, AfterBase, AtExponent, AfterFactor, empty_frame, with_factor, with_last}
+use Rattle.system_text.specs.Grammar.{Sum, TermTree, Factor, Base, First, FirstNegative, Added, TakenAway, Single, Multiplied, sum_tokens, term_tokens, factor_tokens, base_tokens, sum_value, term_value, factor_value, base_value, most_of, IsSumWithin, IsTermWithin, IsFactorWithin, IsBaseWithin}
 use Rattle.system_text.proofs.Values.{term_value_is_named}
 
 -- what of a sum stands before its last term: nothing, a minus, or a sum and a sign
@@ -23,35 +23,35 @@ before_tokens (Adding f) = sum_tokens f ++ Plus ∷ []
 before_tokens (TakingAway f) = sum_tokens f ++ Minus ∷ []
 
 -- the sum with its last term
-abbrev pub completed : Before → Term → Sum
+abbrev pub completed : Before → TermTree → Sum
 completed Beginning t = First t
 completed Negative t = FirstNegative t
 completed (Adding f) t = Added f t
 completed (TakingAway f) t = TakenAway f t
 
-pub sum_tokens-completed : (b : Before) (t : Term) → sum_tokens (completed b t) ≡ before_tokens b ++ term_tokens t
+pub sum_tokens-completed : (b : Before) (t : TermTree) → sum_tokens (completed b t) ≡ before_tokens b ++ term_tokens t
 sum_tokens-completed Beginning t = refl
 sum_tokens-completed Negative t = refl
 sum_tokens-completed (Adding f) t = sym (append_assoc (sum_tokens f) (Plus ∷ []) (term_tokens t))
 sum_tokens-completed (TakingAway f) t = sym (append_assoc (sum_tokens f) (Minus ∷ []) (term_tokens t))
 
 -- the factors of a term before its last
-abbrev pub factors_tokens : Option Term → List Token
+abbrev pub factors_tokens : Option TermTree → List Token
 factors_tokens None = []
 factors_tokens (Some t) = term_tokens t ++ Times ∷ []
 
 -- the term with its last factor
-abbrev pub multiplied : Option Term → Factor → Term
+abbrev pub multiplied : Option TermTree → Factor → TermTree
 multiplied None f = Single f
 multiplied (Some t) f = Multiplied t f
 
-pub term_tokens-multiplied : (o : Option Term) (f : Factor) → term_tokens (multiplied o f) ≡ factors_tokens o ++ factor_tokens f
+pub term_tokens-multiplied : (o : Option TermTree) (f : Factor) → term_tokens (multiplied o f) ≡ factors_tokens o ++ factor_tokens f
 term_tokens-multiplied None f = refl
 term_tokens-multiplied (Some t) f = sym (append_assoc (term_tokens t) (Times ∷ []) (factor_tokens f))
 
 -- a sum that isn't read to its end
 abbrev pub Part : Type 0
-Part = Before × Option Term
+Part = Before × Option TermTree
 
 -- the tokens before the innermost parenthesis that is open
 abbrev pub outer_tokens : List Part → List Token
@@ -67,7 +67,7 @@ module _ (s : Setting) where
   SumMeans depth (TakingAway f) is_negative sum = (is_negative ≡ true) × (sum_value s f ≡ Some sum) × IsSumWithin depth f
 
   -- the product of the earlier factors
-  abbrev pub ProductMeans : ℕ → Option Term → Option Polynomial → Type 0
+  abbrev pub ProductMeans : ℕ → Option TermTree → Option Polynomial → Type 0
   ProductMeans depth None product = product ≡ None
   ProductMeans depth (Some t) product = (f : Polynomial) × (product ≡ Some f) × (term_value s t ≡ Some f) × IsTermWithin depth t
 
@@ -83,7 +83,7 @@ module _ (s : Setting) where
   pub record Partial (xs : List Token) (outer : List Frame) (frame : Frame) (last : List Token) : Type 0 where
     pub parts : List Part
     pub before : Before
-    pub factors : Option Term
+    pub factors : Option TermTree
     pub spelled : xs ≡ outer_tokens parts ++ (before_tokens before ++ (factors_tokens factors ++ last))
     pub outer_means : OuterMeans parts outer
     pub sum_means : SumMeans (length outer) before frame.is_negative frame.sum
@@ -101,7 +101,7 @@ module _ (s : Setting) where
   pub record EndsWithTerm (xs : List Token) (outer : List Frame) (frame : Frame) (f : Polynomial) : Type 0 where
     pub parts : List Part
     pub before : Before
-    pub tree : Term
+    pub tree : TermTree
     pub spelled : xs ≡ outer_tokens parts ++ (before_tokens before ++ term_tokens tree)
     pub outer_means : OuterMeans parts outer
     pub sum_means : SumMeans (length outer) before frame.is_negative frame.sum
@@ -137,18 +137,18 @@ module _ (s : Setting) where
   ReadingMeans xs r = Means xs r.outer r.frame r.mode
 
   -- the product with one more factor
-  term_value-multiplied : (depth : ℕ) (o : Option Term) (product : Option Polynomial) (tree : Factor) (f g : Polynomial) → ProductMeans depth o product → factor_value s tree ≡ Some f → times_within s.modulus product f ≡ Some g → term_value s (multiplied o tree) ≡ Some g
+  term_value-multiplied : (depth : ℕ) (o : Option TermTree) (product : Option Polynomial) (tree : Factor) (f g : Polynomial) → ProductMeans depth o product → factor_value s tree ≡ Some f → with_factor s.modulus product f ≡ Some g → term_value s (multiplied o tree) ≡ Some g
   term_value-multiplied depth None product tree f g h e d =
-      let one : times_within s.modulus None f ≡ Some g = subst (λ o. times_within s.modulus o f ≡ Some g) h d in
+      let one : with_factor s.modulus None f ≡ Some g = subst (λ o. with_factor s.modulus o f ≡ Some g) h d in
       e ∙ one
-  term_value-multiplied depth (Some t) product tree f g h e d = rw (h.2, e) (subst (λ o. times_within s.modulus o f ≡ Some g) h.1 d)
+  term_value-multiplied depth (Some t) product tree f g h e d = rw (h.2, e) (subst (λ o. with_factor s.modulus o f ≡ Some g) h.1 d)
 
-  IsTermWithin-multiplied : (depth : ℕ) (o : Option Term) (product : Option Polynomial) (tree : Factor) → ProductMeans depth o product → IsFactorWithin depth tree → IsTermWithin depth (multiplied o tree)
+  IsTermWithin-multiplied : (depth : ℕ) (o : Option TermTree) (product : Option Polynomial) (tree : Factor) → ProductMeans depth o product → IsFactorWithin depth tree → IsTermWithin depth (multiplied o tree)
   IsTermWithin-multiplied depth None product tree h i = i
   IsTermWithin-multiplied depth (Some t) product tree h i = (h.3, i)
 
   -- a factor ends a term
-  pub term_from_factor : (xs : List Token) (outer : List Frame) (frame : Frame) (tree : Factor) (f g : Polynomial) → Partial xs outer frame (factor_tokens tree) → factor_value s tree ≡ Some f → IsFactorWithin (length outer) tree → times_within s.modulus frame.product f ≡ Some g → EndsWithTerm xs outer frame g
+  pub term_from_factor : (xs : List Token) (outer : List Frame) (frame : Frame) (tree : Factor) (f g : Polynomial) → Partial xs outer frame (factor_tokens tree) → factor_value s tree ≡ Some f → IsFactorWithin (length outer) tree → with_factor s.modulus frame.product f ≡ Some g → EndsWithTerm xs outer frame g
   term_from_factor xs outer frame tree f g h e i d = record {
     parts = h.parts;
     before = h.before;
@@ -161,7 +161,7 @@ module _ (s : Setting) where
   }
 
   module _ (many : 1 < s.modulus) where
-    sum_value-completed : (depth : ℕ) (b : Before) (sum : Polynomial) (is_negative : Bool) (t : Term) (f : Polynomial) → SumMeans depth b is_negative sum → term_value s t ≡ Some f → sum_value s (completed b t) ≡ Some (with_last s.modulus (record { sum = sum; is_negative = is_negative; product = None }) f)
+    sum_value-completed : (depth : ℕ) (b : Before) (sum : Polynomial) (is_negative : Bool) (t : TermTree) (f : Polynomial) → SumMeans depth b is_negative sum → term_value s t ≡ Some f → sum_value s (completed b t) ≡ Some (with_last s.modulus (record { sum = sum; is_negative = is_negative; product = None }) f)
     sum_value-completed depth Beginning sum is_negative t f h e =
         let positive : 0 < s.modulus = omega arith in
         let same = zero-sum_of s.modulus positive s.variables f (term_value_is_named s many t f e).0 in
@@ -174,7 +174,7 @@ module _ (s : Setting) where
     sum_value-completed depth (Adding g) sum is_negative t f h e = rw (h.0, h.1, e) refl
     sum_value-completed depth (TakingAway g) sum is_negative t f h e = rw (h.0, h.1, e) refl
 
-    IsSumWithin-completed : (depth : ℕ) (b : Before) (sum : Polynomial) (is_negative : Bool) (t : Term) → SumMeans depth b is_negative sum → IsTermWithin depth t → IsSumWithin depth (completed b t)
+    IsSumWithin-completed : (depth : ℕ) (b : Before) (sum : Polynomial) (is_negative : Bool) (t : TermTree) → SumMeans depth b is_negative sum → IsTermWithin depth t → IsSumWithin depth (completed b t)
     IsSumWithin-completed depth Beginning sum is_negative t h i = i
     IsSumWithin-completed depth Negative sum is_negative t h i = i
     IsSumWithin-completed depth (Adding g) sum is_negative t h i = (h.2, i)

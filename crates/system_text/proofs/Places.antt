@@ -6,7 +6,7 @@ use Rattle.polynomials.specs.Fits.{most_exponent, power_within}
 use Rattle.system_text.specs.Tokens.{Token, Placed, Name, Number, Plus, Minus, Times, Power, Open, Close, unplaced}
 use Rattle.system_text.specs.Faults.{Fault, fault}
 use Rattle.system_text.specs.Limits.{most_digits, most_depth, text_width}
-use Rattle.system_text.specs.Sums.{Setting, Frame, Mode, Reading, AtSum, AtFactor, AfterBase, AtExponent, AfterFactor, empty_frame, times_within, after_base, at_factor, at_sum, variable_at, after_factor_at, closed_at, after_factor, after_base_token, raised, at_exponent, step_in, step, ended_bare, ended_in, ended, read_tokens}
+use Rattle.system_text.specs.Sums.{Setting, Frame, Mode, Reading, AtSum, AtFactor, AfterBase, AtExponent, AfterFactor, empty_frame, with_factor, after_base, at_factor, at_sum, variable_at, after_factor_at, closed_at, after_factor, after_base_token, power_factor, at_exponent, step_in, step, ended_bare, ended_in, line_ended, read_tokens}
 
 -- a token without a place
 abbrev pub bare : Token → Placed
@@ -79,7 +79,7 @@ module _ (s : Setting) (outer : List Frame) (frame : Frame) (t u : Placed) where
   after_factor_at_bare k l None = refl
   after_factor_at_bare k l (Some f) = refl
 
-  raised_bare : (k l : ℕ) (o : Option Polynomial) → state_of (raised s outer frame k o) ≡ state_of (raised s outer frame l o)
+  raised_bare : (k l : ℕ) (o : Option Polynomial) → state_of (power_factor s outer frame k o) ≡ state_of (power_factor s outer frame l o)
   raised_bare k l None = refl
   raised_bare k l (Some f) = after_factor_at_bare k l _
 
@@ -88,17 +88,17 @@ module _ (s : Setting) (outer : List Frame) (frame : Frame) (t u : Placed) where
       let power : Option Polynomial = power_within s.modulus s.variables text_width f (digits_value 10 digits) in
       let small : Bool = ltb most (digits_value 10 digits) in
       state_of-cond (ltb most_digits (length digits)) (fault 9 t.first) (fault 9 u.first)
-      (cond small (Err (fault 10 t.first)) (raised s outer frame t.last power))
-      (cond small (Err (fault 10 u.first)) (raised s outer frame u.last power))
-      (state_of-cond small (fault 10 t.first) (fault 10 u.first) (raised s outer frame t.last power) (raised s outer frame u.last power) (raised_bare t.last u.last power))
+      (cond small (Err (fault 10 t.first)) (power_factor s outer frame t.last power))
+      (cond small (Err (fault 10 u.first)) (power_factor s outer frame u.last power))
+      (state_of-cond small (fault 10 t.first) (fault 10 u.first) (power_factor s outer frame t.last power) (power_factor s outer frame u.last power) (raised_bare t.last u.last power))
   at_exponent_bare f most Plus = refl
   at_exponent_bare f most _ = refl
 
 module _ (s : Setting) where
   after_base_bare : (outer : List Frame) (frame : Frame) (t : Placed) (f : Polynomial) (last most : ℕ) (x : Token) → t.token ≡ x → state_of (after_base_token s outer frame f last most t x) ≡ state_of (after_base_token s outer frame f 0 most (bare x) x)
   after_base_bare outer frame t f last most Power e = refl
-  after_base_bare outer frame t f last most Plus e = after_bare_bare s outer frame t (bare Plus) last (times_within s.modulus frame.product f) e
-  after_base_bare outer frame t f last most x e = after_bare_bare s outer frame t (bare x) last (times_within s.modulus frame.product f) e
+  after_base_bare outer frame t f last most Plus e = after_bare_bare s outer frame t (bare Plus) last (with_factor s.modulus frame.product f) e
+  after_base_bare outer frame t f last most x e = after_bare_bare s outer frame t (bare x) last (with_factor s.modulus frame.product f) e
 
   step_bare : (t : Placed) (outer : List Frame) (frame : Frame) (m : Mode) → state_of (step_in s outer frame t m) ≡ state_of (step_in s outer frame (bare t.token) (bare_mode m))
   step_bare t outer frame AtSum = at_sum_bare s outer frame t (bare t.token) t.token
@@ -122,8 +122,8 @@ module _ (s : Setting) where
   ended_bare_in outer frame end (AtExponent f most) = refl
   ended_bare_in outer frame end (AfterFactor f) = ended_with_bare outer frame end 0 f (Some f)
 
-  ended_same : (end k : ℕ) (q r : Reading) → bare_reading q ≡ bare_reading r → value_of (ended s end q) ≡ value_of (ended s k r)
-  ended_same end k q r d = ended_bare_in q.outer q.frame end q.mode ∙ ap (λ x. value_of (ended s 0 x)) d ∙ sym (ended_bare_in r.outer r.frame k r.mode)
+  ended_same : (end k : ℕ) (q r : Reading) → bare_reading q ≡ bare_reading r → value_of (line_ended s end q) ≡ value_of (line_ended s k r)
+  ended_same end k q r d = ended_bare_in q.outer q.frame end q.mode ∙ ap (λ x. value_of (line_ended s 0 x)) d ∙ sym (ended_bare_in r.outer r.frame k r.mode)
 
   read_on : (end k : ℕ) (ts us : List Placed) (a b : Result Reading Fault) → ((q r : Reading) → bare_reading q ≡ bare_reading r → value_of (read_tokens s end ts q) ≡ value_of (read_tokens s k us r)) → state_of a ≡ state_of b → value_of (elim a as (λ _. Result Polynomial Fault) [ Ok next ↦ read_tokens s end ts next | Err e ↦ Err e ]) ≡ value_of (elim b as (λ _. Result Polynomial Fault) [ Ok next ↦ read_tokens s k us next | Err e ↦ Err e ])
   read_on end k ts us (Ok q) (Ok r) h e = h q r cc

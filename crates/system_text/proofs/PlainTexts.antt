@@ -6,7 +6,7 @@ use Rattle.std.specs.List.{AllByRecursion, onto_first}
 use Rattle.system_text.specs.Characters.{is_character}
 use Rattle.system_text.specs.Tokens.{Token, Name}
 use Rattle.system_text.specs.Lines.{lines_of, first_not_text}
-use Rattle.system_text.specs.Grammar.{Sum, Term, Factor, Base, First, FirstNegative, Added, TakenAway, Single, Multiplied, Bare, Raised, Numeral, Variable, Parenthesis, sum_tokens, term_tokens, factor_tokens, base_tokens}
+use Rattle.system_text.specs.Grammar.{Sum, TermTree, Factor, Base, First, FirstNegative, Added, TakenAway, Single, Multiplied, Bare, Raised, Numeral, Variable, Parenthesis, sum_tokens, term_tokens, factor_tokens, base_tokens}
 use Rattle.system_text.specs.Systems.{HasTextBytes}
 use Rattle.system_text.proofs.TokenTexts.{IsText, AllByRecursion-append}
 
@@ -73,7 +73,7 @@ mutual
   sum_is_text (Added f t) = AllByRecursion-append IsText (sum_tokens f) (Token.Plus ∷ term_tokens t) (sum_is_text f) (tt, term_is_text t)
   sum_is_text (TakenAway f t) = AllByRecursion-append IsText (sum_tokens f) (Token.Minus ∷ term_tokens t) (sum_is_text f) (tt, term_is_text t)
 
-  term_is_text : (t : Term) → AllByRecursion IsText (term_tokens t)
+  term_is_text : (t : TermTree) → AllByRecursion IsText (term_tokens t)
   term_is_text (Single f) = factor_is_text f
   term_is_text (Multiplied t f) = AllByRecursion-append IsText (term_tokens t) (Token.Times ∷ factor_tokens f) (term_is_text t) (tt, factor_is_text f)
 

@@ -5,7 +5,7 @@ use Rattle.std.specs.Prelude.{drop, codes}
 use Rattle.polynomials.specs.Polynomials.{Polynomial}
 use Rattle.system_text.specs.Tokens.{Token, Placed, Name, tokens, unplaced}
 use Rattle.system_text.specs.Faults.{Fault}
-use Rattle.system_text.specs.Sums.{Setting, Frame, Mode, Reading, AtSum, AtFactor, AfterBase, AtExponent, AfterFactor, start, times_within, with_last, step, ended_with, ended_bare, ended_in, read_tokens, read_sum}
+use Rattle.system_text.specs.Sums.{Setting, Frame, Mode, Reading, AtSum, AtFactor, AfterBase, AtExponent, AfterFactor, start, with_factor, with_last, step, ended_with, ended_bare, ended_in, read_tokens, read_sum}
 use Rattle.system_text.specs.Grammar.{Sum, sum_tokens, sum_value, IsSumWithin}
 use Rattle.system_text.specs.Lines.{is_nonzero_word, begin_with_nonzero, is_nonzero_line, read_nonzero}
 use Rattle.system_text.specs.Systems.{SpellsAfter, SpellsSum, SpellsNonzero, nonzero_word}
@@ -47,7 +47,7 @@ module _ (s : Setting) (many : 1 < s.modulus) where
   reading_ends : (xs : List Token) (outer : List Frame) (frame : Frame) (end : ℕ) (m : Mode) (g : Polynomial) → Means s xs outer frame m → ended_in s outer frame end m ≡ Ok g → AreSumTokens s xs g
   reading_ends xs outer frame end AtSum g h e = absurd cc
   reading_ends xs outer frame end AtFactor g h e = absurd cc
-  reading_ends xs outer frame end (AfterBase f last most) g h e = bare_ends xs outer frame last end (times_within s.modulus frame.product f) g (λ k product. bare_term s many xs outer frame f k most h product) e
+  reading_ends xs outer frame end (AfterBase f last most) g h e = bare_ends xs outer frame last end (with_factor s.modulus frame.product f) g (λ k product. bare_term s many xs outer frame f k most h product) e
   reading_ends xs outer frame end (AtExponent f most) g h e = absurd cc
   reading_ends xs outer frame end (AfterFactor f) g h e = term_ends xs outer frame end f g h e
 

@@ -7,7 +7,7 @@ use Rattle.polynomials.specs.Fits.{most_exponent, power_within}
 use Rattle.system_text.specs.Tokens.{Token, Name, Number, Plus, Minus, Times, Power, Open, Close}
 use Rattle.system_text.specs.Faults.{Fault, fault}
 use Rattle.system_text.specs.Limits.{most_digits, most_power, most_depth, text_width}
-use Rattle.system_text.specs.Sums.{Setting, Frame, Mode, Reading, AtSum, AtFactor, AfterBase, AfterFactor, empty_frame, times_within, with_last, after_base, raised, read_tokens}
+use Rattle.system_text.specs.Sums.{Setting, Frame, Mode, Reading, AtSum, AtFactor, AfterBase, AfterFactor, empty_frame, with_factor, with_last, after_base, power_factor, read_tokens}
 use Rattle.system_text.proofs.Places.{bare}
 
 -- the reading of a frame in these frames, in this mode
@@ -97,17 +97,17 @@ module _ (s : Setting) where
   run-after_term (_ ∷ xs) outer frame f g h e = refl
 
   -- a factor without a power is multiplied in
-  pub run-after_base : (xs : List Token) (outer : List Frame) (frame : Frame) (f g : Polynomial) (most : ℕ) → EndsFactor xs → times_within s.modulus frame.product f ≡ Some g → run xs (reading outer frame (AfterBase f 0 most)) ≡ run xs (reading outer frame (AfterFactor g))
+  pub run-after_base : (xs : List Token) (outer : List Frame) (frame : Frame) (f g : Polynomial) (most : ℕ) → EndsFactor xs → with_factor s.modulus frame.product f ≡ Some g → run xs (reading outer frame (AfterBase f 0 most)) ≡ run xs (reading outer frame (AfterFactor g))
   run-after_base [] outer frame f g most h e = rw e refl
   run-after_base (Power ∷ xs) outer frame f g most h e = absurd h
   run-after_base (Plus ∷ xs) outer frame f g most h e = rw e refl
   run-after_base (_ ∷ xs) outer frame f g most h e = rw e refl
 
   -- the power of a base is multiplied in
-  pub run-at_exponent : (xs : List Token) (outer : List Frame) (frame : Frame) (f g h : Polynomial) (most : ℕ) (digits : List ℕ) → length digits ≤ most_digits → digits_value 10 digits ≤ most → power_within s.modulus s.variables text_width f (digits_value 10 digits) ≡ Some g → times_within s.modulus frame.product g ≡ Some h → run (Power ∷ Number digits ∷ xs) (reading outer frame (AfterBase f 0 most)) ≡ run xs (reading outer frame (AfterFactor h))
+  pub run-at_exponent : (xs : List Token) (outer : List Frame) (frame : Frame) (f g h : Polynomial) (most : ℕ) (digits : List ℕ) → length digits ≤ most_digits → digits_value 10 digits ≤ most → power_within s.modulus s.variables text_width f (digits_value 10 digits) ≡ Some g → with_factor s.modulus frame.product g ≡ Some h → run (Power ∷ Number digits ∷ xs) (reading outer frame (AfterBase f 0 most)) ≡ run xs (reading outer frame (AfterFactor h))
   run-at_exponent xs outer frame f g h most digits few small power product =
-      ap (run_after xs) (after_tests (ltb most_digits (length digits)) (ltb most (digits_value 10 digits)) (fault 9 0) (fault 10 0) (raised s outer frame 0 (power_within s.modulus s.variables text_width f (digits_value 10 digits))) (le-ltb most_digits (length digits) few) (le-ltb most (digits_value 10 digits) small))
-      ∙ ap (λ o. run_after xs (raised s outer frame 0 o)) power
+      ap (run_after xs) (after_tests (ltb most_digits (length digits)) (ltb most (digits_value 10 digits)) (fault 9 0) (fault 10 0) (power_factor s outer frame 0 (power_within s.modulus s.variables text_width f (digits_value 10 digits))) (le-ltb most_digits (length digits) few) (le-ltb most (digits_value 10 digits) small))
+      ∙ ap (λ o. run_after xs (power_factor s outer frame 0 o)) power
       ∙ rw product refl
 
   -- a number is a base

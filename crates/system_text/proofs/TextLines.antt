@@ -9,7 +9,7 @@ use Rattle.system_text.specs.Tokens.{Token, Name, Number}
 use Rattle.system_text.specs.Sums.{Setting, read_sum}
 use Rattle.system_text.specs.Grammar.{sum_tokens}
 use Rattle.system_text.specs.Heads.{read_prime, read_order, and_then_read}
-use Rattle.system_text.specs.Lines.{is_skipped, TextSystem, Progress, AtPrime, AtOrder, AtSums, setting_of, with_input, with_nonzero, empty_system, is_nonzero_line, read_nonzero, read_polynomial, read_content}
+use Rattle.system_text.specs.Lines.{is_skipped, TextSystem, Progress, AtPrime, AtOrder, AtSums, setting_of, with_input, with_nonzero_polynomial, empty_system, is_nonzero_line, read_nonzero, read_polynomial, read_content}
 use Rattle.system_text.specs.Systems.{HasTokens, SpellEach, nonzero_word, SpellsPrime, SpellsOrder, SpellPolynomials}
 use Rattle.system_text.proofs.ReadSums.{spelled_sums_are_read, spelled_nonzero_lines_are_read}
 use Rattle.system_text.proofs.TokenTexts.{IsText, line_of_characters}
@@ -72,11 +72,11 @@ module _ (n : ℕ) where
   characters_of line xs e h = line_of_characters line (subst (AllByRecursion IsText) (sym e) h)
 
   -- a polynomial that is read is one of the system
-  polynomial_is_spelled : (system : TextSystem) (line : List ℕ) (next : TextSystem) (b : Bool) → is_nonzero_line line ≡ b → Contains field_primes system.prime → cond b (and_then_read (read_nonzero (setting_of n system) line) (λ f. Ok (with_nonzero system f))) (and_then_read (read_sum (setting_of n system) line) (λ f. Ok (with_input system f))) ≡ Ok next → IsLineBefore (AtSums system) line (AtSums next)
+  polynomial_is_spelled : (system : TextSystem) (line : List ℕ) (next : TextSystem) (b : Bool) → is_nonzero_line line ≡ b → Contains field_primes system.prime → cond b (and_then_read (read_nonzero (setting_of n system) line) (λ f. Ok (with_nonzero_polynomial system f))) (and_then_read (read_sum (setting_of n system) line) (λ f. Ok (with_input system f))) ≡ Ok next → IsLineBefore (AtSums system) line (AtSums next)
   polynomial_is_spelled system line next true d h e =
-      let parts = both_read (read_nonzero (setting_of n system) line) (λ f. Ok (with_nonzero system f)) next e in
+      let parts = both_read (read_nonzero (setting_of n system) line) (λ f. Ok (with_nonzero_polynomial system f)) next e in
       let spelled = (spelled_nonzero_lines_are_read (setting_of n system) line parts.between (many_of_prime system.prime h)).0 (d, parts.first) in
-      let same : with_nonzero system parts.between ≡ next = cc parts.second in
+      let same : with_nonzero_polynomial system parts.between ≡ next = cc parts.second in
       subst (λ x. IsLineBefore (AtSums system) line (AtSums x)) same (record {
         characters = characters_of line (nonzero_word ++ sum_tokens spelled.tree) spelled.spelled (tt, sum_is_text spelled.tree);
         has_prime = h;
@@ -130,7 +130,7 @@ module _ (n : ℕ) where
   nonzero_is_read earlier line lines system fs (g ∷ gs) d h e inputs nonzero =
       let read = ((spelled_nonzero_lines_are_read (setting_of n earlier) line g (many_of_prime earlier.prime h)).1 nonzero.0).1 in
       record {
-        next = AtSums (with_nonzero earlier g);
+        next = AtSums (with_nonzero_polynomial earlier g);
         read = rw (d, read) refl;
         has_prime = h;
         completes = (fs, gs, e ∙ ap (of_polynomials earlier (earlier.inputs ++ fs)) (sym (append_assoc earlier.nonzero (g ∷ []) gs)), inputs, nonzero.1);

@@ -6,8 +6,8 @@ use Rattle.polynomials.specs.Fits.{most_exponent, product_within, power_within}
 use Rattle.polynomials.proofs.PolynomialLaws.{zero-sum_of}
 use Rattle.system_text.specs.Tokens.{Token, Name, Number, Plus, Minus, Times, Power, Open, Close}
 use Rattle.system_text.specs.Limits.{most_power, text_width}
-use Rattle.system_text.specs.Sums.{Setting, Frame, AtSum, AtFactor, AfterBase, AfterFactor, empty_frame, place_of_name, times_within, with_last, start, variable_at}
-use Rattle.system_text.specs.Grammar.{Sum, Term, Factor, Base, First, FirstNegative, Added, TakenAway, Single, Multiplied, Bare, Raised, Numeral, Variable, Parenthesis, variable_of, sum_tokens, term_tokens, factor_tokens, base_tokens, sum_value, term_value, factor_value, base_value, most_of, IsSumWithin, IsTermWithin, IsFactorWithin, IsBaseWithin}
+use Rattle.system_text.specs.Sums.{Setting, Frame, AtSum, AtFactor, AfterBase, AfterFactor, empty_frame, place_of_name, with_factor, with_last, start, variable_at}
+use Rattle.system_text.specs.Grammar.{Sum, TermTree, Factor, Base, First, FirstNegative, Added, TakenAway, Single, Multiplied, Bare, Raised, Numeral, Variable, Parenthesis, variable_of, sum_tokens, term_tokens, factor_tokens, base_tokens, sum_value, term_value, factor_value, base_value, most_of, IsSumWithin, IsTermWithin, IsFactorWithin, IsBaseWithin}
 use Rattle.system_text.proofs.Values.{of_both_parts, of_one_parts, IsNamed, sum_value_is_named}
 use Rattle.system_text.proofs.Places.{bare}
 use Rattle.system_text.proofs.Runs.{reading, fresh, EndsFactor, EndsTerm, BeginsFactor, ends_factor, run, run_after, run-at_sum, run-after_factor, run-after_term, run-after_base, run-at_exponent, run-number, run-open}
@@ -22,7 +22,7 @@ factor_begins (Raised (Variable x) e) rest = tt
 factor_begins (Raised (Parenthesis f) e) rest = tt
 
 -- and so does a term
-term_begins : (t : Term) (rest : List Token) → BeginsFactor (term_tokens t ++ rest)
+term_begins : (t : TermTree) (rest : List Token) → BeginsFactor (term_tokens t ++ rest)
 term_begins (Single f) rest = factor_begins f rest
 term_begins (Multiplied t f) rest = subst BeginsFactor (sym (append_assoc (term_tokens t) (Times ∷ factor_tokens f) rest)) (term_begins t (Times ∷ (factor_tokens f ++ rest)))
 
@@ -71,7 +71,7 @@ module _ (s : Setting) (many : 1 < s.modulus) where
         ∙ run-after_term s rest outer (fresh parts.left true) parts.right f ends (same ∙ sym (with_only f (sum_value_is_named s many (TakenAway g t) f e)))
 
     -- those of a term before whatever may follow a term
-    pub term_is_read : (tree : Term) (rest : List Token) (outer : List Frame) (sum : Polynomial) (is_negative : Bool) (f : Polynomial) → EndsFactor rest → term_value s tree ≡ Some f → IsTermWithin (length outer) tree → run s (term_tokens tree ++ rest) (reading outer (fresh sum is_negative) AtFactor) ≡ run s rest (reading outer (fresh sum is_negative) (AfterFactor f))
+    pub term_is_read : (tree : TermTree) (rest : List Token) (outer : List Frame) (sum : Polynomial) (is_negative : Bool) (f : Polynomial) → EndsFactor rest → term_value s tree ≡ Some f → IsTermWithin (length outer) tree → run s (term_tokens tree ++ rest) (reading outer (fresh sum is_negative) AtFactor) ≡ run s rest (reading outer (fresh sum is_negative) (AfterFactor f))
     term_is_read (Single g) rest outer sum is_negative f ends e within = factor_is_read g rest outer (fresh sum is_negative) f f ends e refl within
     term_is_read (Multiplied t g) rest outer sum is_negative f ends e within =
         let parts = of_both_parts (λ x y. product_within s.modulus text_width x y) (term_value s t) (factor_value s g) f e in
@@ -81,7 +81,7 @@ module _ (s : Setting) (many : 1 < s.modulus) where
         ∙ run-after_factor s rest outer (record { sum = sum; is_negative = is_negative; product = Some parts.left }) None f
 
     -- those of a factor after the earlier ones of its term
-    pub factor_is_read : (tree : Factor) (rest : List Token) (outer : List Frame) (frame : Frame) (f g : Polynomial) → EndsFactor rest → factor_value s tree ≡ Some f → times_within s.modulus frame.product f ≡ Some g → IsFactorWithin (length outer) tree → run s (factor_tokens tree ++ rest) (reading outer frame AtFactor) ≡ run s rest (reading outer frame (AfterFactor g))
+    pub factor_is_read : (tree : Factor) (rest : List Token) (outer : List Frame) (frame : Frame) (f g : Polynomial) → EndsFactor rest → factor_value s tree ≡ Some f → with_factor s.modulus frame.product f ≡ Some g → IsFactorWithin (length outer) tree → run s (factor_tokens tree ++ rest) (reading outer frame AtFactor) ≡ run s rest (reading outer frame (AfterFactor g))
     factor_is_read (Bare b) rest outer frame f g ends e product within =
         base_is_read b rest outer frame f e within
         ∙ run-after_base s rest outer frame f g (most_of b) ends product

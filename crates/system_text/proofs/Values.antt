@@ -14,7 +14,7 @@ use Rattle.polynomials.proofs.DegreesOfProducts.{sum_is_free, product_is_free}
 use Rattle.polynomials.proofs.FitsLemmas.{product_within_is}
 use Rattle.system_text.specs.Limits.{text_width}
 use Rattle.system_text.specs.Sums.{Setting, place_of_name}
-use Rattle.system_text.specs.Grammar.{Sum, Term, Factor, Base, First, FirstNegative, Added, TakenAway, Single, Multiplied, Bare, Raised, Numeral, Variable, Parenthesis, of_both, of_one, variable_of, sum_value, term_value, factor_value, base_value}
+use Rattle.system_text.specs.Grammar.{Sum, TermTree, Factor, Base, First, FirstNegative, Added, TakenAway, Single, Multiplied, Bare, Raised, Numeral, Variable, Parenthesis, of_both, of_one, variable_of, sum_value, term_value, factor_value, base_value}
 use Rattle.system_text.specs.Laws.{IsNamedPolynomial}
 
 -- what an operation on two values makes, it makes of values that are there
@@ -100,7 +100,7 @@ module _ (s : Setting) (many : 1 < s.modulus) where
         subst (IsNamed s) same (sum_is_named parts.left (negative_of s.modulus parts.right) (sum_value_is_named g parts.left parts.left_is) (negative_is_named parts.right (term_value_is_named t parts.right parts.right_is)))
 
     -- of a term
-    pub term_value_is_named : (t : Term) (f : Polynomial) → term_value s t ≡ Some f → IsNamed s f
+    pub term_value_is_named : (t : TermTree) (f : Polynomial) → term_value s t ≡ Some f → IsNamed s f
     term_value_is_named (Single g) f e = factor_value_is_named g f e
     term_value_is_named (Multiplied t g) f e =
         let parts = of_both_parts (λ x y. product_within s.modulus text_width x y) (term_value s t) (factor_value s g) f e in

@@ -10,15 +10,15 @@ use Rattle.system_text.specs.Sums.{Setting, place_of_name}
 mutual
   -- terms that are added or taken away, the first with a sign before it or not
   pub data Sum : Type 0 where
-    First : Term → Sum
-    FirstNegative : Term → Sum
-    Added : Sum → Term → Sum
-    TakenAway : Sum → Term → Sum
+    First : TermTree → Sum
+    FirstNegative : TermTree → Sum
+    Added : Sum → TermTree → Sum
+    TakenAway : Sum → TermTree → Sum
 
   -- factors that are multiplied
-  pub data Term : Type 0 where
-    Single : Factor → Term
-    Multiplied : Term → Factor → Term
+  pub data TermTree : Type 0 where
+    Single : Factor → TermTree
+    Multiplied : TermTree → Factor → TermTree
 
   -- a base, or a power of it
   pub data Factor : Type 0 where
@@ -39,7 +39,7 @@ abbrev mutual
   sum_tokens (Added f t) = sum_tokens f ++ Token.Plus ∷ term_tokens t
   sum_tokens (TakenAway f t) = sum_tokens f ++ Token.Minus ∷ term_tokens t
 
-  pub term_tokens : Term → List Token
+  pub term_tokens : TermTree → List Token
   term_tokens (Single f) = factor_tokens f
   term_tokens (Multiplied t f) = term_tokens t ++ Token.Times ∷ factor_tokens f
 
@@ -74,19 +74,25 @@ module _ (s : Setting) where
     pub sum_value : Sum → Option Polynomial
     sum_value (First t) = term_value t
     sum_value (FirstNegative t) = of_one (λ f. Some (negative_of s.modulus f)) (term_value t)
-    sum_value (Added f t) = of_both (λ x y. Some (sum_of s.modulus x y)) (sum_value f) (term_value t)
-    sum_value (TakenAway f t) = of_both (λ x y. Some (difference_of s.modulus x y)) (sum_value f) (term_value t)
+    sum_value (Added f t) =
+        of_both (λ x y. Some (sum_of s.modulus x y)) (sum_value f) (term_value t)
+    sum_value (TakenAway f t) =
+        of_both (λ x y. Some (difference_of s.modulus x y)) (sum_value f) (term_value t)
 
-    pub term_value : Term → Option Polynomial
+    pub term_value : TermTree → Option Polynomial
     term_value (Single f) = factor_value f
-    term_value (Multiplied t f) = of_both (λ x y. product_within s.modulus text_width x y) (term_value t) (factor_value f)
+    term_value (Multiplied t f) =
+        of_both (λ x y. product_within s.modulus text_width x y) (term_value t) (factor_value f)
 
     pub factor_value : Factor → Option Polynomial
     factor_value (Bare b) = base_value b
-    factor_value (Raised b digits) = of_one (λ x. power_within s.modulus s.variables text_width x (digits_value 10 digits)) (base_value b)
+    factor_value (Raised b digits) =
+        of_one (λ x. power_within s.modulus s.variables text_width x (digits_value 10 digits))
+        (base_value b)
 
     pub base_value : Base → Option Polynomial
-    base_value (Numeral digits) = Some (constant_of s.variables (digits_value 10 digits % s.modulus))
+    base_value (Numeral digits) =
+        Some (constant_of s.variables (digits_value 10 digits % s.modulus))
     base_value (Variable x) = variable_of s.variables (place_of_name 0 s.names x)
     base_value (Parenthesis f) = sum_value f
 
@@ -96,8 +102,8 @@ most_of (Numeral digits) = most_exponent
 most_of (Variable x) = most_exponent
 most_of (Parenthesis f) = most_power
 
--- within depth open parentheses: numbers have at most 18 digits, exponents pass no limit, and no more
--- than 64 parentheses are open
+-- within depth open parentheses: numbers have at most 18 digits, exponents pass no limit, and no
+-- more than 64 parentheses are open
 abbrev mutual
   pub IsSumWithin : ℕ → Sum → Type 0
   IsSumWithin depth (First t) = IsTermWithin depth t
@@ -105,7 +111,7 @@ abbrev mutual
   IsSumWithin depth (Added f t) = IsSumWithin depth f × IsTermWithin depth t
   IsSumWithin depth (TakenAway f t) = IsSumWithin depth f × IsTermWithin depth t
 
-  pub IsTermWithin : ℕ → Term → Type 0
+  pub IsTermWithin : ℕ → TermTree → Type 0
   IsTermWithin depth (Single f) = IsFactorWithin depth f
   IsTermWithin depth (Multiplied t f) = IsTermWithin depth t × IsFactorWithin depth f
 

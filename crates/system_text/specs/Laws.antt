@@ -14,7 +14,7 @@ SpelledSumsAreRead =
     → 1 < s.modulus
     → (read_sum s line ≡ Ok f) ↔ SpellsSum s line f
 
--- a line is read as a polynomial that must not vanish exactly where it spells `nonzero` and such a sum
+-- a nonzero line is read as a polynomial exactly where it spells `nonzero` and a sum of that value
 abbrev pub SpelledNonzeroLinesAreRead : Type 0
 SpelledNonzeroLinesAreRead =
     (s : Setting) (line : List ℕ) (f : Polynomial)

@@ -1,5 +1,5 @@
--- How a text is read, line by line: the prime line, the order line, and a polynomial in each further
--- line; the first refusal from left to right where it is no system.
+-- How a text is read, line by line: the prime line, the order line, and a polynomial in each
+-- further line; the first refusal from left to right where it is no system.
 use Rattle.std.specs.Prelude.{ℕ, suc, ◌+◌, eqb, Bool, true, false, cond, List, [], ◌∷◌, ◌++◌, length, drop, Option, Some, None, Result, Ok, Err, codes}
 use Rattle.std.specs.List.{slice_split}
 use Rattle.std.specs.Str.{bytes_eq}
@@ -51,8 +51,8 @@ abbrev pub with_input : TextSystem → Polynomial → TextSystem
 with_input system f = record system { inputs = system.inputs ++ f ∷ [] }
 
 -- a system with one more polynomial that must not vanish
-abbrev pub with_nonzero : TextSystem → Polynomial → TextSystem
-with_nonzero system f = record system { nonzero = system.nonzero ++ f ∷ [] }
+abbrev pub with_nonzero_polynomial : TextSystem → Polynomial → TextSystem
+with_nonzero_polynomial system f = record system { nonzero = system.nonzero ++ f ∷ [] }
 
 -- the token is the name `nonzero`
 abbrev pub is_nonzero_word : Token → Bool
@@ -76,7 +76,7 @@ read_nonzero s line = read_tokens s (length line + 1) (drop 1 (tokens line)) sta
 abbrev pub read_polynomial : ℕ → TextSystem → List ℕ → Result TextSystem Fault
 read_polynomial n system line =
     cond (is_nonzero_line line)
-    (and_then_read (read_nonzero (setting_of n system) line) (λ f. Ok (with_nonzero system f)))
+    (and_then_read (read_nonzero (setting_of n system) line) (λ f. Ok (with_nonzero_polynomial system f)))
     (and_then_read (read_sum (setting_of n system) line) (λ f. Ok (with_input system f)))
 
 -- a line that isn't skipped, after what was read before it

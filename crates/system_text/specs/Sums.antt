@@ -27,14 +27,15 @@ pub data Mode : Type 0 where
   AtSum : Mode
   -- before a factor
   AtFactor : Mode
-  -- after a base: its value, the place of its last byte, and the greatest exponent that it may have
+  -- after a base: its value, the place of its last byte, and the greatest exponent it may have
   AfterBase : Polynomial → ℕ → ℕ → Mode
   -- after the sign of a power: the value of the base, and the greatest exponent
   AtExponent : Polynomial → ℕ → Mode
   -- after a factor: the product of the term so far
   AfterFactor : Polynomial → Mode
 
--- the sums round the parentheses that are open, the innermost first; the sum that is read; and where
+-- the sums round the parentheses that are open, the innermost first; the sum that is read; and
+-- where it stands
 pub record Reading : Type 0 where
   pub outer : List Frame
   pub frame : Frame
@@ -54,9 +55,9 @@ place_of_name i [] x = None
 place_of_name i (name ∷ names) x = cond (bytes_eq name x) (Some i) (place_of_name (suc i) names x)
 
 -- f after what is there, as one more factor
-abbrev pub times_within : ℕ → Option Polynomial → Polynomial → Option Polynomial
-times_within p None f = Some f
-times_within p (Some g) f = product_within p text_width g f
+abbrev pub with_factor : ℕ → Option Polynomial → Polynomial → Option Polynomial
+with_factor p None f = Some f
+with_factor p (Some g) f = product_within p text_width g f
 
 -- the sum with its last term f
 abbrev pub with_last : ℕ → Frame → Polynomial → Polynomial
@@ -65,23 +66,27 @@ with_last p frame f = cond frame.is_negative (difference_of p frame.sum f) (sum_
 -- the product of the term, or a fault at the place of the last factor's last byte
 abbrev pub after_factor_at : List Frame → Frame → ℕ → Option Polynomial → Result Reading Fault
 after_factor_at outer frame last None = Err (fault 11 last)
-after_factor_at outer frame last (Some f) = Ok (record { outer = outer; frame = frame; mode = AfterFactor f })
+after_factor_at outer frame last (Some f) =
+    Ok (record { outer = outer; frame = frame; mode = AfterFactor f })
 
 module _ (s : Setting) where
   -- a base is read
   abbrev pub after_base : List Frame → Frame → Polynomial → ℕ → ℕ → Result Reading Fault
-  after_base outer frame f last most = Ok (record { outer = outer; frame = frame; mode = AfterBase f last most })
+  after_base outer frame f last most =
+      Ok (record { outer = outer; frame = frame; mode = AfterBase f last most })
 
   -- a name in a sum
   abbrev pub variable_at : List Frame → Frame → Placed → Option ℕ → Result Reading Fault
   variable_at outer frame t None = Err (fault 7 t.first)
-  variable_at outer frame t (Some v) = after_base outer frame (variable_power s.variables v 1) t.last most_exponent
+  variable_at outer frame t (Some v) =
+      after_base outer frame (variable_power s.variables v 1) t.last most_exponent
 
   -- a number as a base
   abbrev pub number_base : List Frame → Frame → Placed → List ℕ → Result Reading Fault
   number_base outer frame t digits =
       cond (ltb most_digits (length digits)) (Err (fault 9 t.first))
-      (after_base outer frame (constant_of s.variables (digits_value 10 digits % s.modulus)) t.last most_exponent)
+      (after_base outer frame (constant_of s.variables (digits_value 10 digits % s.modulus))
+      t.last most_exponent)
 
   -- a parenthesis that opens
   abbrev pub opened_at : List Frame → Frame → Placed → Result Reading Fault
@@ -98,22 +103,33 @@ module _ (s : Setting) where
 
   -- the first token of a sum
   abbrev pub at_sum : List Frame → Frame → Placed → Token → Result Reading Fault
-  at_sum outer frame t Minus = Ok (record { outer = outer; frame = record frame { is_negative = true }; mode = AtFactor })
+  at_sum outer frame t Minus =
+      Ok (record { outer = outer; frame = record frame { is_negative = true }; mode = AtFactor })
   at_sum outer frame t other = at_factor outer frame t other
 
   -- a parenthesis that closes after the term f: its sum is a base of the sum round it
   abbrev pub closed_at : List Frame → Frame → Placed → Polynomial → Result Reading Fault
   closed_at [] frame t f = Err (misplaced 8 t)
-  closed_at (around ∷ outer) frame t f = after_base outer around (with_last s.modulus frame f) t.last most_power
+  closed_at (around ∷ outer) frame t f =
+      after_base outer around (with_last s.modulus frame f) t.last most_power
 
   -- the next term, taken away or not
   abbrev pub next_term : List Frame → Frame → Bool → Polynomial → Result Reading Fault
   next_term outer frame is_negative f =
-      Ok (record { outer = outer; frame = record { sum = with_last s.modulus frame f; is_negative = is_negative; product = None }; mode = AtFactor })
+      Ok (record {
+        outer = outer;
+        frame = record {
+          sum = with_last s.modulus frame f;
+          is_negative = is_negative;
+          product = None;
+        };
+        mode = AtFactor;
+      })
 
   -- the token after a factor, where f is the product of the term so far
   abbrev pub after_factor : List Frame → Frame → Polynomial → Placed → Token → Result Reading Fault
-  after_factor outer frame f t Times = Ok (record { outer = outer; frame = record frame { product = Some f }; mode = AtFactor })
+  after_factor outer frame f t Times =
+      Ok (record { outer = outer; frame = record frame { product = Some f }; mode = AtFactor })
   after_factor outer frame f t Plus = next_term outer frame false f
   after_factor outer frame f t Minus = next_term outer frame true f
   after_factor outer frame f t Close = closed_at outer frame t f
@@ -121,30 +137,36 @@ module _ (s : Setting) where
 
   -- a factor without a power, and then this token
   abbrev pub after_bare : List Frame → Frame → Polynomial → ℕ → Placed → Result Reading Fault
-  after_bare outer frame f last t = elim (times_within s.modulus frame.product f) [
+  after_bare outer frame f last t = elim (with_factor s.modulus frame.product f) [
     | None ↦ Err (fault 11 last)
     | Some g ↦ after_factor outer frame g t t.token
   ]
 
   -- the token after a base
-  abbrev pub after_base_token : List Frame → Frame → Polynomial → ℕ → ℕ → Placed → Token → Result Reading Fault
-  after_base_token outer frame f last most t Power = Ok (record { outer = outer; frame = frame; mode = AtExponent f most })
+  abbrev pub after_base_token :
+      List Frame → Frame → Polynomial → ℕ → ℕ → Placed → Token → Result Reading Fault
+  after_base_token outer frame f last most t Power =
+      Ok (record { outer = outer; frame = frame; mode = AtExponent f most })
   after_base_token outer frame f last most t _ = after_bare outer frame f last t
 
   -- the power of a base, as one more factor
-  abbrev pub raised : List Frame → Frame → ℕ → Option Polynomial → Result Reading Fault
-  raised outer frame last None = Err (fault 11 last)
-  raised outer frame last (Some f) = after_factor_at outer frame last (times_within s.modulus frame.product f)
+  abbrev pub power_factor : List Frame → Frame → ℕ → Option Polynomial → Result Reading Fault
+  power_factor outer frame last None = Err (fault 11 last)
+  power_factor outer frame last (Some f) =
+      after_factor_at outer frame last (with_factor s.modulus frame.product f)
 
   -- the exponent e of the base f
-  abbrev pub exponent_at : List Frame → Frame → Polynomial → ℕ → Placed → List ℕ → Result Reading Fault
+  abbrev pub exponent_at :
+      List Frame → Frame → Polynomial → ℕ → Placed → List ℕ → Result Reading Fault
   exponent_at outer frame f most t digits =
       cond (ltb most_digits (length digits)) (Err (fault 9 t.first))
       (cond (ltb most (digits_value 10 digits)) (Err (fault 10 t.first))
-      (raised outer frame t.last (power_within s.modulus s.variables text_width f (digits_value 10 digits))))
+      (power_factor outer frame t.last
+      (power_within s.modulus s.variables text_width f (digits_value 10 digits))))
 
   -- the token after the sign of a power
-  abbrev pub at_exponent : List Frame → Frame → Polynomial → ℕ → Placed → Token → Result Reading Fault
+  abbrev pub at_exponent :
+      List Frame → Frame → Polynomial → ℕ → Placed → Token → Result Reading Fault
   at_exponent outer frame f most t (Number digits) = exponent_at outer frame f most t digits
   at_exponent outer frame f most t _ = Err (misplaced 8 t)
 
@@ -173,17 +195,21 @@ module _ (s : Setting) where
   abbrev pub ended_in : List Frame → Frame → ℕ → Mode → Result Polynomial Fault
   ended_in outer frame end AtSum = Err (fault 8 end)
   ended_in outer frame end AtFactor = Err (fault 8 end)
-  ended_in outer frame end (AfterBase f last most) = ended_bare outer frame last end (times_within s.modulus frame.product f)
+  ended_in outer frame end (AfterBase f last most) =
+      ended_bare outer frame last end (with_factor s.modulus frame.product f)
   ended_in outer frame end (AtExponent f most) = Err (fault 8 end)
   ended_in outer frame end (AfterFactor f) = ended_with outer frame end f
 
-  abbrev pub ended : ℕ → Reading → Result Polynomial Fault
-  ended end r = ended_in r.outer r.frame end r.mode
+  abbrev pub line_ended : ℕ → Reading → Result Polynomial Fault
+  line_ended end r = ended_in r.outer r.frame end r.mode
 
   -- the tokens that are left, and then the line's end
   abbrev pub read_tokens : ℕ → List Placed → Reading → Result Polynomial Fault
-  read_tokens end [] r = ended end r
-  read_tokens end (t ∷ ts) r = elim (step t r) [ Ok next ↦ read_tokens end ts next | Err e ↦ Err e ]
+  read_tokens end [] r = line_ended end r
+  read_tokens end (t ∷ ts) r = elim (step t r) [
+    | Ok next ↦ read_tokens end ts next
+    | Err e ↦ Err e
+  ]
 
   -- a line as a sum
   abbrev pub read_sum : List ℕ → Result Polynomial Fault

@@ -16,7 +16,8 @@ abbrev pub HasTokens : List ℕ → List Token → Type 0
 HasTokens line ts = unplaced (tokens line) ≡ ts
 
 -- the line has these tokens first, and then spells a sum within the limits whose value is f
-pub record SpellsAfter (first : List Token) (s : Setting) (line : List ℕ) (f : Polynomial) : Type 0 where
+pub record SpellsAfter
+    (first : List Token) (s : Setting) (line : List ℕ) (f : Polynomial) : Type 0 where
   pub tree : Sum
   pub spelled : HasTokens line (first ++ sum_tokens tree)
   pub value : sum_value s tree ≡ Some f
@@ -73,13 +74,17 @@ content_of bytes = filter (λ line. not (is_skipped line)) (lines_of bytes)
 abbrev pub HasTextBytes : List ℕ → Type 0
 HasTextBytes bytes = AllByRecursion (λ b. IsTrue (is_character b) ⊎ (b ≡ 10)) bytes
 
--- of these lines those that begin with `nonzero` spell the polynomials that must not vanish, and the
--- others those whose zeros are sought, both in order
+-- of these lines those that begin with `nonzero` spell the polynomials that must not vanish, and
+-- the others those whose zeros are sought, both in order
 pub record SpellPolynomials (n : ℕ) (lines : List (List ℕ)) (system : TextSystem) : Type 0 where
   pub inputs :
-      SpellEach [] (setting_of n system) (filter (λ line. not (is_nonzero_line line)) lines) system.inputs
+      SpellEach [] (setting_of n system)
+      (filter (λ line. not (is_nonzero_line line)) lines)
+      system.inputs
   pub nonzero :
-      SpellEach nonzero_word (setting_of n system) (filter is_nonzero_line lines) system.nonzero
+      SpellEach nonzero_word (setting_of n system)
+      (filter is_nonzero_line lines)
+      system.nonzero
 
 -- the text is the system: a prime line, an order line, and a line for each polynomial
 pub record IsSystemText (n : ℕ) (bytes : List ℕ) (system : TextSystem) : Type 0 where

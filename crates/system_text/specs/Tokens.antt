@@ -46,7 +46,10 @@ single i t = record { tokens = record { token = t; first = i; last = i } ∷ [];
 
 -- a run that begins
 abbrev pub begun : (List ℕ → Token) → (ℕ → Bool) → ℕ → ℕ → Opening
-begun make goes_on i b = record { tokens = []; run = Some (record { make = make; goes_on = goes_on; first = i; bytes = b ∷ [] }) }
+begun make goes_on i b = record {
+  tokens = [];
+  run = Some (record { make = make; goes_on = goes_on; first = i; bytes = b ∷ [] });
+}
 
 -- the sign that a byte is, or else no token
 abbrev pub sign_or_stray : ℕ → Token

@@ -1,0 +1,33 @@
+-- The text of an answer: what must not vanish, its chains in path order, and how it ends.
+use Rattle.std.specs.Prelude.{ℕ, Bool, true, false, List, ◌++◌, length, Option, Some, None}
+use Rattle.std.specs.List.{flat_map}
+use Rattle.polynomials.specs.Polynomials.{Polynomial}
+use Rattle.split_paths.specs.Answer.{Answer}
+use Rattle.split_paths.specs.declared.event.Why.{Why}
+use Rattle.impose_rules.specs.Leaves.{Leaf, chain_of}
+use Rattle.report_text.specs.Lines.{nonzero_line, plain_chain_text, end_line, stopped_line}
+
+-- the polynomials that must not vanish
+abbrev pub nonzero_text : List (List ℕ) → List Polynomial → List ℕ
+nonzero_text names nonzero = flat_map (nonzero_line names) nonzero
+
+-- a leaf with its path
+abbrev pub leaf_text : List (List ℕ) → (List ℕ × Leaf) → List ℕ
+leaf_text names leaf = plain_chain_text names leaf.0 (chain_of leaf.1)
+
+-- the last line: how many chains there are, or where a branch was stopped
+abbrev pub last_line : ℕ → Option (List ℕ × Why) → List ℕ
+last_line count None = end_line count
+last_line count (Some stop) = stopped_line stop.0 stop.1
+
+-- the text of the answer to a system with these names and these polynomials that must not vanish
+abbrev pub answer_text : List (List ℕ) → List Polynomial → Answer Leaf → List ℕ
+answer_text names nonzero answer =
+    nonzero_text names nonzero
+    ++ (flat_map (leaf_text names) answer.chains
+    ++ last_line (length answer.chains) answer.stop)
+
+-- whether the answer was stopped
+abbrev pub is_stopped : Option (List ℕ × Why) → Bool
+is_stopped None = false
+is_stopped (Some stop) = true
