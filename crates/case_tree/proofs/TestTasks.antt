@@ -1,15 +1,11 @@
 -- Lawful tasks on a single polynomial, and off one more.
-use Rattle.std.proofs.Common.{◌≡◌, ℕ, zero, suc, List, [], ◌∷◌, Option, Some, None, ◌++◌, refl, sym, ap, ◌∙◌, subst, arith}
+use Rattle.std.proofs.Common.{◌≡◌, ℕ, zero, suc, List, [], ◌∷◌, Option, Some, None, refl, sym, ap, ◌∙◌, subst, arith}
 use Rattle.std.specs.Prelude.{slice_get}
 use Rattle.std.specs.List.{AllByRecursion}
 use Rattle.polynomials.specs.Primes.{IsPrime}
-use Rattle.polynomials.specs.Polynomials.{Polynomial, monic}
+use Rattle.polynomials.specs.Polynomials.{Polynomial}
 use Rattle.polynomials.specs.Views.{main_var}
-use Rattle.polynomials.proofs.MonicLemmas.{IsPolynomial-monic}
-use Rattle.zero_sets.specs.Tasks.{is_known_nonzero, with_nonzero}
-use Rattle.division_rules.proofs.Steps.{choose}
-use Rattle.impose_rules.proofs.Lists.{each_appended}
-use Rattle.impose_laws.proofs.MonicForms.{degree_in-monic}
+use Rattle.zero_sets.specs.Tasks.{with_nonzero}
 use Rattle.chains.specs.Members.{with_polynomial, with_member_at}
 use Rattle.case_laws.specs.Lawful.{IsLawfulPolynomial, AreLawfulPolynomials, IsLawfulChain}
 use Rattle.case_laws.proofs.LawfulNonzero.{with_nonzero_lawful}
