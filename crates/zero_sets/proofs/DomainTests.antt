@@ -91,23 +91,23 @@ module _ (p : ℕ) (r : Tables) where
   pub domain_from_tests : PassesTests → IsFiniteDomain p r
   domain_from_tests t = record {
     ring = record {
-    many = leb-true 2 r.size t.many;
-    sum_count = eqb-true _ _ t.sum_count;
-    product_count = eqb-true _ _ t.product_count;
-    nil_below = ltb-true _ _ t.nil_below;
-    one_below = ltb-true _ _ t.one_below;
-    sum_below = λ x y a b. ltb-true _ _ (at_two _ t.sum_below x y a b);
-    product_below = λ x y a b. ltb-true _ _ (at_two _ t.product_below x y a b);
-    add_comm = λ x y a b. eqb-true _ _ (at_two _ t.add_comm x y a b);
-    add_assoc = λ x y z a b c. eqb-true _ _ (at_three _ t.add_assoc x y z a b c);
-    nil-add = λ x a. eqb-true _ _ (at_one _ t.nil-add x a);
-    negative = λ x a. negative_at x (at_one _ t.negative x a);
-    mul_comm = λ x y a b. eqb-true _ _ (at_two _ t.mul_comm x y a b);
-    mul_assoc = λ x y z a b c. eqb-true _ _ (at_three _ t.mul_assoc x y z a b c);
-    one-mul = λ x a. eqb-true _ _ (at_one _ t.one-mul x a);
-    mul-add = λ x y z a b c. eqb-true _ _ (at_three _ t.mul-add x y z a b c);
-    one_not_nil = λ e. eqb-false r.one r.nil t.one_not_nil e;
-    characteristic = eqb-true _ _ t.characteristic;
+      many = leb-true 2 r.size t.many;
+      sum_count = eqb-true _ _ t.sum_count;
+      product_count = eqb-true _ _ t.product_count;
+      nil_below = ltb-true _ _ t.nil_below;
+      one_below = ltb-true _ _ t.one_below;
+      sum_below = λ x y a b. ltb-true _ _ (at_two _ t.sum_below x y a b);
+      product_below = λ x y a b. ltb-true _ _ (at_two _ t.product_below x y a b);
+      add_comm = λ x y a b. eqb-true _ _ (at_two _ t.add_comm x y a b);
+      add_assoc = λ x y z a b c. eqb-true _ _ (at_three _ t.add_assoc x y z a b c);
+      nil-add = λ x a. eqb-true _ _ (at_one _ t.nil-add x a);
+      negative = λ x a. negative_at x (at_one _ t.negative x a);
+      mul_comm = λ x y a b. eqb-true _ _ (at_two _ t.mul_comm x y a b);
+      mul_assoc = λ x y z a b c. eqb-true _ _ (at_three _ t.mul_assoc x y z a b c);
+      one-mul = λ x a. eqb-true _ _ (at_one _ t.one-mul x a);
+      mul-add = λ x y z a b c. eqb-true _ _ (at_three _ t.mul-add x y z a b c);
+      one_not_nil = λ e. eqb-false r.one r.nil t.one_not_nil e;
+      characteristic = eqb-true _ _ t.characteristic;
     };
     integral = λ x y a b e. factor_is_nil x y (at_two _ t.integral x y a b) e;
   }

@@ -80,12 +80,12 @@ module _ (p : ℕ) (r : Tables) (finite : IsFiniteRing p r) (xs : List ℕ) (poi
 
       forth : value_at r xs (scaled p c f) ≡ r.nil → value_at r xs f ≡ r.nil
       forth e = zero_number f (
-        sym (R.one-mul (V f))
-        ∙ (ap (λ u. R.◌⊗◌ u (V f)) (sym inverse)
-        ∙ (R.mul_assoc (natural_in R (inverse_of p c)) (natural_in R c) (V f)
-        ∙ (ap (R.◌⊗◌ (natural_in R (inverse_of p c))) (sym multiple ∙ zero_element (scaled p c f) e)
-        ∙ times-nil R (natural_in R (inverse_of p c)))))
-      )
+          sym (R.one-mul (V f))
+          ∙ (ap (λ u. R.◌⊗◌ u (V f)) (sym inverse)
+          ∙ (R.mul_assoc (natural_in R (inverse_of p c)) (natural_in R c) (V f)
+          ∙ (ap (R.◌⊗◌ (natural_in R (inverse_of p c))) (sym multiple ∙ zero_element (scaled p c f) e)
+          ∙ times-nil R (natural_in R (inverse_of p c)))))
+          )
 
       back : value_at r xs f ≡ r.nil → value_at r xs (scaled p c f) ≡ r.nil
       back e = zero_number (scaled p c f) (multiple ∙ (ap (λ u. R.◌⊗◌ (natural_in R c) u) (zero_element f e) ∙ times-nil R (natural_in R c)))

@@ -39,9 +39,9 @@ ValueOfLeadAndTail =
     → IsFiniteRing p r
     → IsPoint r xs
     → value_at r xs f
-      ≡ plus_in r
-        (times_in r (value_at r xs (lead_in v f)) (power_at r (get_or xs v r.one) (degree_in v f)))
-        (value_at r xs (tail_in v f))
+    ≡ plus_in r
+    (times_in r (value_at r xs (lead_in v f)) (power_at r (get_or xs v r.one) (degree_in v f)))
+    (value_at r xs (tail_in v f))
 
 -- a constant other than 0 has a value other than 0
 abbrev pub ConstantsAreNonZero : Type 0
