@@ -25,4 +25,6 @@ IsNewMember t chain = (v : ℕ) × (main_var t ≡ Some v) × (member_in v chain
 
 -- t has a main variable, and the chain has a polynomial with it, of greater degree in it
 abbrev pub LowersMember : Polynomial → List Polynomial → Type 0
-LowersMember t chain = (v : ℕ) × (u : Polynomial) × (main_var t ≡ Some v) × (member_in v chain ≡ Some u) × (degree_in v t < degree_in v u)
+LowersMember t chain =
+    (v : ℕ) × (u : Polynomial) × (main_var t ≡ Some v) × (member_in v chain ≡ Some u)
+    × (degree_in v t < degree_in v u)

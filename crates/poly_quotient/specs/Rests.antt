@@ -22,8 +22,10 @@ pub record IsRest (p n : ℕ) (terms : Polynomial) (products : List Term) : Type
 abbrev pub sum_of_rest : ℕ → Polynomial → List Term → Polynomial
 sum_of_rest p terms products = collected p (terms ++ products)
 
--- t is taken out as the greatest, and the others stay: none has a greater monomial, and no term has its
-pub record TakesGreatest (p n : ℕ) (terms products : List Term) (t : Term) (later others : List Term) : Type 0 where
+-- t is taken out as the greatest, and the others stay: no product has a greater monomial, and each
+-- later term a smaller one
+pub record TakesGreatest
+    (p n : ℕ) (terms products : List Term) (t : Term) (later others : List Term) : Type 0 where
   pub sum : sum_of_rest p terms products ≡ collected p (t ∷ (later ++ others))
   pub count : length terms + length products ≡ suc (length later + length others)
   pub variables : length t.0 ≡ n

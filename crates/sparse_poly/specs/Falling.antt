@@ -1,5 +1,6 @@
 -- Lists of terms: their number of variables, and falling order, where monomials may repeat.
 use Rattle.std.specs.Prelude.{◌≡◌, ◌<◌, ◌⊎◌, ℕ, List, [], ◌∷◌}
+use Rattle.std.specs.List.{AllByRecursion}
 use Rattle.std.specs.declared.cmp.Ordering.TheVariants.{Less}
 use Rattle.polynomials.specs.Monomials.{Monomial, monomial_order}
 use Rattle.polynomials.specs.Polynomials.{Term}
@@ -11,8 +12,7 @@ HaveVariables n ts = HaveLength n ts
 
 -- each coefficient is a residue modulo p
 abbrev pub AreResidues : ℕ → List Term → Type 0
-AreResidues p [] = Unit {0}
-AreResidues p (t ∷ ts) = (t.1 < p) × AreResidues p ts
+AreResidues p = AllByRecursion (λ (t : Term). t.1 < p)
 
 -- l is not greater than m
 abbrev pub IsAtMost : Monomial → Monomial → Type 0
@@ -20,8 +20,7 @@ IsAtMost m l = (monomial_order l m ≡ Less) ⊎ (l ≡ m)
 
 -- no monomial is greater than m
 abbrev pub AreAtMost : Monomial → List Term → Type 0
-AreAtMost m [] = Unit {0}
-AreAtMost m (t ∷ ts) = IsAtMost m t.0 × AreAtMost m ts
+AreAtMost m = AllByRecursion (λ (t : Term). IsAtMost m t.0)
 
 -- no monomial is greater than one before it
 abbrev pub IsFalling : List Term → Type 0

@@ -6,20 +6,33 @@ use Rattle.zero_sets.specs.Domains.{Tables, IsFiniteDomain, IsPoint, plus_in, ti
 
 -- h has the sum of the values of f and g
 abbrev pub HasValueOfSum : ℕ → Polynomial → Polynomial → Polynomial → Type 0
-HasValueOfSum p f g h = (r : Tables) (xs : List ℕ) → IsFiniteDomain p r → IsPoint r xs → value_at r xs h ≡ plus_in r (value_at r xs f) (value_at r xs g)
+HasValueOfSum p f g h =
+    (r : Tables) (xs : List ℕ) → IsFiniteDomain p r → IsPoint r xs →
+    value_at r xs h ≡ plus_in r (value_at r xs f) (value_at r xs g)
 
 -- the values of h and g add to that of f
 abbrev pub HasValueOfDifference : ℕ → Polynomial → Polynomial → Polynomial → Type 0
-HasValueOfDifference p f g h = (r : Tables) (xs : List ℕ) → IsFiniteDomain p r → IsPoint r xs → plus_in r (value_at r xs h) (value_at r xs g) ≡ value_at r xs f
+HasValueOfDifference p f g h =
+    (r : Tables) (xs : List ℕ) → IsFiniteDomain p r → IsPoint r xs →
+    plus_in r (value_at r xs h) (value_at r xs g) ≡ value_at r xs f
 
 -- h has the product of the values of f and g
 abbrev pub HasValueOfProduct : ℕ → Polynomial → Polynomial → Polynomial → Type 0
-HasValueOfProduct p f g h = (r : Tables) (xs : List ℕ) → IsFiniteDomain p r → IsPoint r xs → value_at r xs h ≡ times_in r (value_at r xs f) (value_at r xs g)
+HasValueOfProduct p f g h =
+    (r : Tables) (xs : List ℕ) → IsFiniteDomain p r → IsPoint r xs →
+    value_at r xs h ≡ times_in r (value_at r xs f) (value_at r xs g)
 
 -- h is zero where f is
 abbrev pub HasZerosOf : ℕ → Polynomial → Polynomial → Type 0
-HasZerosOf p f h = (r : Tables) (xs : List ℕ) → IsFiniteDomain p r → IsPoint r xs → (value_at r xs h ≡ r.nil) ↔ (value_at r xs f ≡ r.nil)
+HasZerosOf p f h =
+    (r : Tables) (xs : List ℕ) → IsFiniteDomain p r → IsPoint r xs →
+    (value_at r xs h ≡ r.nil) ↔ (value_at r xs f ≡ r.nil)
 
 -- f has the value of its lead in v times the power of the coordinate, and of its tail
 abbrev pub SplitsValue : ℕ → ℕ → Polynomial → Polynomial → Polynomial → Type 0
-SplitsValue p v f lead tail = (r : Tables) (xs : List ℕ) → IsFiniteDomain p r → IsPoint r xs → value_at r xs f ≡ plus_in r (times_in r (value_at r xs lead) (power_at r (get_or xs v r.one) (degree_in v f))) (value_at r xs tail)
+SplitsValue p v f lead tail =
+    (r : Tables) (xs : List ℕ) → IsFiniteDomain p r → IsPoint r xs →
+    value_at r xs f
+    ≡ plus_in r
+        (times_in r (value_at r xs lead) (power_at r (get_or xs v r.one) (degree_in v f)))
+        (value_at r xs tail)
