@@ -1,2 +1,2 @@
-pub mod Texts
-pub mod Fronts
+pub mod Walks
+pub mod Growth

@@ -1,15 +1,17 @@
-ghost use Rattle.std.specs.Prelude.{◌≡◌, [], ◌+◌, ◌++◌, length, map, IfOk, OnOk, string_bytes};
-ghost use Rattle.report_text.specs.Lines.{end_line, plain_chain_text, stopped_line};
-ghost use Rattle.solver_reports.specs.Fronts.{IsPrintable, IsPrintableEvent, Grows};
+ghost use Rattle.std.specs.Prelude.{◌≡◌, ◌+◌, ◌++◌, length, map, IfOk, OnOk, All, string_bytes};
+ghost use Rattle.report_text.specs.Polynomials.{IsInLeast};
+ghost use Rattle.report_text.specs.Lines.{end_line, stopped_line};
+ghost use Rattle.report_text.specs.Answers.{leaf_text, nonzero_text};
+ghost use Rattle.solver_reports.specs.Growth.{IsPrintableLeaf, IsPrintableEvent, Grows};
 
 use chains::Chain;
-use report_text::{print_end, print_plain_chain, print_stopped};
-use sparse_poly::Names;
+use report_text::{print_end, print_nonzero, print_plain_chain, print_stopped};
+use sparse_poly::{Names, Polys};
 use split_paths::{Event, Outcome, Path, Why};
 use std::alloc::{AllocError, Global};
 use std::marker::Model;
 
-/// The report so far: the text of its chains, and how many there are.
+/// The report so far: its text up to the last chain, and how many chains there are.
 #[derive(Drop)]
 pub struct Report {
     text: String,
@@ -18,7 +20,7 @@ pub struct Report {
 
 impl Model for Report {
     ghost use Rattle.std.specs.Prelude.{string_bytes};
-    ghost use Rattle.solver_reports.specs.Texts.{Front};
+    ghost use Rattle.solver_reports.specs.Walks.{Front};
 
     ghost Value = { Front };
 
@@ -26,15 +28,19 @@ impl Model for Report {
 }
 
 impl Report {
-    /// A report without chains.
-    pub fn new(alloc: Global) -> Report
-        ensures text { result.text ≡ [] }
-        ensures count { result.count ≡ 0 }
+    /// A report without chains, of a system with these polynomials that must not vanish.
+    pub fn new(alloc: Global, names: &Names, nonzero: &Polys) -> Result<Report, AllocError>
+        requires { All (IsInLeast (length names.now)) nonzero.now }
+        ensures text { IfOk result (λ report.
+            report.text ≡ nonzero_text (map string_bytes names.now) nonzero.now) }
+        ensures count { IfOk result (λ report. report.count ≡ 0) }
     {
-        Report {
-            text: String::new(alloc),
-            count: 0,
+        let mut text = String::new(alloc);
+        for i in 0..nonzero.count() {
+            let line = print_nonzero(alloc, names, nonzero.at(i))?;
+            text.push_str(line.as_str())?;
         }
+        Ok(Report { text, count: 0 })
     }
 
     /// Takes the next event of the tree. Answers whether the report ends here, at a branch that was
@@ -76,9 +82,9 @@ impl Report {
         path: &Path,
         chain: &Chain,
     ) -> Result<(), AllocError>
-        requires { IsPrintable (length names.now) chain.now }
+        requires { IsPrintableLeaf (length names.now) chain.now }
         ensures text { OnOk result (self.new.text ≡ self.old.text
-            ++ plain_chain_text (map string_bytes names.now) path.now chain.now) }
+            ++ leaf_text (map string_bytes names.now) (path.now, chain.now)) }
         ensures count { OnOk result (self.new.count ≡ self.old.count + 1) }
     {
         let Some(count) = self.count.checked_add(1) else {

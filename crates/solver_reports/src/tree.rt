@@ -1,14 +1,15 @@
-ghost use Rattle.std.specs.Prelude.{◌≡◌, ℕ, List, length, map, IfOk, string_bytes};
-ghost use Rattle.polynomials.specs.Polynomials.{Polynomial};
+ghost use Rattle.std.specs.Prelude.{◌≡◌, length, map, IfOk, All, string_bytes};
 ghost use Rattle.split_paths.specs.Answer.{answer_of};
 ghost use Rattle.split_paths.specs.Tree.{events_of, events_to_come};
-ghost use Rattle.solver_reports.specs.Texts.{walk_of};
-ghost use Rattle.solver_reports.specs.Fronts.{IsPrintable};
+ghost use Rattle.impose_rules.specs.Leaves.{Leaf};
+ghost use Rattle.report_text.specs.Polynomials.{IsInLeast};
+ghost use Rattle.solver_reports.specs.Walks.{walk_of};
+ghost use Rattle.solver_reports.specs.Growth.{IsPrintableLeaf};
 
 use crate::report::Report;
 use chains::Chain;
 use generators::{Generator, Turn};
-use sparse_poly::Names;
+use sparse_poly::{Names, Polys};
 use split_paths::{Offer, Splitter};
 use std::alloc::{AllocError, Global};
 use std::marker::Model;
@@ -22,27 +23,29 @@ pub struct Walked {
 
 impl Model for Walked {
     ghost use Rattle.std.specs.Prelude.{string_bytes};
-    ghost use Rattle.solver_reports.specs.Texts.{Walk};
+    ghost use Rattle.solver_reports.specs.Walks.{Walk};
 
     ghost Value = { Walk };
 
     ghost view = { λ walked. record { text = string_bytes walked.text; stopped = walked.stopped } };
 }
 
-/// Walks the tree below an offer, and reports its answer.
+/// Walks the tree below an offer, and reports its answer behind the polynomials that must not vanish.
 pub fn walk<X: Splitter<Leaf = Chain>>(
     alloc: Global,
     names: &Names,
+    nonzero: &Polys,
     splitter: &X,
     root: Offer<X>,
 ) -> Result<Walked, AllocError>
     requires lawful { X.lawful_task splitter.now root.task }
-    requires printable { (leaf : List Polynomial) → X.lawful_leaf splitter.now leaf
-        → IsPrintable (length names.now) leaf }
-    ensures { IfOk result (λ walked. walked ≡ walk_of (map string_bytes names.now)
+    requires nonzero { All (IsInLeast (length names.now)) nonzero.now }
+    requires printable { (leaf : Leaf) → X.lawful_leaf splitter.now leaf
+        → IsPrintableLeaf (length names.now) leaf }
+    ensures { IfOk result (λ walked. walked ≡ walk_of (map string_bytes names.now) nonzero.now
         (answer_of (events_of (X.step splitter.now) root))) }
 {
-    let mut report = Report::new(alloc);
+    let mut report = Report::new(alloc, names, nonzero)?;
     let mut generator = Generator::of(alloc, root)?;
     loop {
         match generator.turn(splitter) {

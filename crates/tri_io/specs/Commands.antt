@@ -3,8 +3,8 @@ use Rattle.std.specs.Prelude.{◌≡◌, ◌≢◌, ◌⊎◌, ℕ, ◌≤◌, B
 use Rattle.std.specs.Str.{bytes_eq}
 use Rattle.std.specs.Str.Parse.{IsNumeral, digits_value}
 
--- an option that may be given: its name, its greatest value (the least is 1), and its value where it
--- isn't given
+-- an option that may be given: its name, its greatest value (the least is 1), and its value where
+-- it isn't given
 pub record Rule : Type 0 where
   pub name : List ℕ
   pub most : ℕ
