@@ -1,6 +1,6 @@
 mod Widths
-mod Ends
-mod Inputs
+mod Statuses
+mod Answered
 mod Solved
 mod Systems
 mod Usages

@@ -1,23 +1,51 @@
--- The line that says how the program is called is expected where the words are no command.
-use Rattle.std.proofs.Common.{◌≡◌, ℕ, List, Option, Some, None, IfSome, IfOk, Result, Ok, Err, inr, ap, subst}
-use Rattle.report_text.specs.declared.status.Status.TheVariants.{Usage}
-use Rattle.tri_alone.specs.Expected.{Outcome, IsNoCommand, usage_outcome}
-use Rattle.tri_alone.specs.Runs.{IsExpectedAnswer, IsOfSystem}
+-- A run whose words are no command.
+use Rattle.std.proofs.Common.{◌≡◌, ℕ, List, [], ◌∷◌, Option, Result, Ok, Err, IfOk, IfSome, inl, inr, refl, sym, ◌∙◌, ap, lit≤}
+use Rattle.std.specs.Prelude.{Contains, OnOk, OnErr}
+use Rattle.mono_words.specs.declared.mono.TheConstants.{VARS}
+use Rattle.report_text.specs.declared.status.Status.{Status}
+use Rattle.report_text.specs.declared.status.Status.TheVariants.{Usage, ReadFault, WriteFault, OutOfMemory}
+use Rattle.run_rules.specs.Programs.{Ending, IsExpected, IsNoCommand}
+use Rattle.run_rules.specs.Runs.{Leaves, Writes}
+use Rattle.run_rules.proofs.Inputs.{nothing_read_leaves}
+use Rattle.tri_alone.specs.Solver.{alone}
+use Rattle.tri_alone.specs.Solved.{IsAnswered, IsOfSystem}
+use Rattle.tri_alone.proofs.Statuses.{not_usage}
 
-usage_is_expected : (n : ℕ) (words : List (List ℕ)) (bytes : List ℕ) (outcome : Outcome) → IsNoCommand words → outcome ≡ usage_outcome → IsExpectedAnswer n words bytes outcome
-usage_is_expected n words bytes outcome none e = record {
-  expected = inr (none, e);
-  solvable = λ status. absurd (subst (λ s. IsOfSystem s) (ap (λ o. o.status) e) status);
-}
+-- nothing is read
+all_left : (words : List (List ℕ)) (told : Option (List ℕ)) → IsNoCommand alone words → (status : Status) → IfSome told (λ bytes. Leaves alone words bytes told status)
+all_left words told none status = nothing_read_leaves alone words told told status none refl
 
-if_told : (n : ℕ) (words : List (List ℕ)) (left : Option (List ℕ)) (outcome : Outcome) → IsNoCommand words → outcome ≡ usage_outcome → IfSome left (λ bytes. IsExpectedAnswer n words bytes outcome)
-if_told n words None outcome none e = tt
-if_told n words (Some bytes) outcome none e = usage_is_expected n words bytes outcome none e
+module _ {E : Type 0} (words : List (List ℕ)) where
+  pub usage_expected : (told : Option (List ℕ)) (made : Result (Ending Status) E) → IsNoCommand alone words → IfOk made (λ e. e ≡ alone.usage) → IfOk made (λ e. IsExpected alone words told e)
+  usage_expected told (Ok ending) none h = inr (none, h)
+  usage_expected told (Err e) none h = tt
 
-pub usage_expected : {E : Type 0} (n : ℕ) (words : List (List ℕ)) (left : Option (List ℕ)) (made : Result Outcome E) → IsNoCommand words → IfOk made (λ a. a ≡ usage_outcome) → IfOk made (λ a. IfSome left (λ bytes. IsExpectedAnswer n words bytes a))
-usage_expected n words left (Ok outcome) none h = if_told n words left outcome none h
-usage_expected n words left (Err e) none h = tt
+  pub usage_answered : (told : Option (List ℕ)) (made : Result (Ending Status) E) → IfOk made (λ e. e ≡ alone.usage) → IfOk made (λ e. IsOfSystem e.status → IsAnswered VARS words told e)
+  usage_answered told (Ok ending) h = λ status. not_usage ending.status (ap (λ e. e.status) h) status
+  usage_answered told (Err e) h = tt
 
-pub usage_tells : {E : Type 0} (words : List (List ℕ)) (made : Result Outcome E) → IsNoCommand words → IfOk made (λ a. a.status ≡ Usage → IsNoCommand words)
-usage_tells words (Ok outcome) none = λ e. none
-usage_tells words (Err e) none = tt
+  pub usage_tells : (made : Result (Ending Status) E) → IsNoCommand alone words → IfOk made (λ e. e.status ≡ Usage → IsNoCommand alone words)
+  usage_tells (Ok ending) none = λ e. none
+  usage_tells (Err e) none = tt
+
+  pub usage_is : (made : Result (Ending Status) E) → IfOk made (λ e. e ≡ alone.usage) → IfOk made (λ e. IsNoCommand alone words → e.status ≡ Usage)
+  usage_is (Ok ending) h = λ none. ap (λ e. e.status) h
+  usage_is (Err e) h = tt
+
+  pub usage_leaves : (told : Option (List ℕ)) (made : Result (Ending Status) E) → IsNoCommand alone words → OnOk made ((status : Status) → IfSome told (λ bytes. Leaves alone words bytes told status))
+  usage_leaves told (Ok ending) none = all_left words told none
+  usage_leaves told (Err e) none = tt
+
+  pub usage_leaves_fault : (told : Option (List ℕ)) (made : Result (Ending Status) E) → IsNoCommand alone words → OnErr made ((status : Status) → Contains (ReadFault ∷ OutOfMemory ∷ []) status → IfSome told (λ bytes. Leaves alone words bytes told status))
+  usage_leaves_fault told (Ok ending) none = tt
+  usage_leaves_fault told (Err e) none = λ status h. all_left words told none status
+
+-- a run that ends with the usage line had that to write
+pub written_usage : (words : List (List ℕ)) (K : Type 0) (old new : Option (List ℕ)) (ending : Ending Status) (status : Status) → (ending.status ≡ Usage → IsNoCommand alone words) → Writes alone ending K old new status → status ≡ Usage → IsNoCommand alone words
+written_usage words K old new ending status h (inl w) e = h (sym w.0 ∙ e)
+written_usage words K old new ending status h (inr w) e = let bad = sym w.0 ∙ e in cc
+
+-- a run that had it to write ends with it, or with a fault of its sink
+pub written_words : (K : Type 0) (old new : Option (List ℕ)) (ending : Ending Status) (status : Status) → ending.status ≡ Usage → Writes alone ending K old new status → Contains (Usage ∷ WriteFault ∷ OutOfMemory ∷ []) status
+written_words K old new ending status h (inl w) = (0, lit≤ tt, sym (w.0 ∙ h))
+written_words K old new ending status h (inr w) = (1, lit≤ tt, sym w.0)

@@ -4,7 +4,7 @@ use Rattle.std.specs.Str.{bytes_eq}
 use Rattle.std.specs.Str.Parse.{digits_value}
 use Rattle.std.proofs.lemmas.Slice.Eq.{bytes_eq-Decides}
 use Rattle.tri_io.specs.Commands.{Options, Item, IsCommand, IsOfSome, AreItems, rules_of, value_of, steps_rule, width_rule}
-use Rattle.tri_alone.specs.Expected.{HasWidth}
+use Rattle.tri_alone.specs.Solvable.{HasWidth}
 
 -- from 1 to 1,000,000
 abbrev InRange : ℕ → Type 0

@@ -1,4 +1,3 @@
-pub mod Answers
-pub mod Expected
+pub mod Solver
 pub mod Solvable
-pub mod Runs
+pub mod Solved

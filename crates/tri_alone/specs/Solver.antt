@@ -1,75 +1,55 @@
--- The status and the text that a run is to end with.
-use Rattle.std.specs.Prelude.{◌≡◌, ◌⊎◌, ℕ, ◌≤◌, ltb, false, cond, List, length, Result, Ok, Err}
+-- The solver as a program: how it ends on the bytes of an input.
+use Rattle.std.specs.Prelude.{ℕ, Bool, true, false, cond, List, Result, Ok, Err}
+use Rattle.mono_words.specs.declared.mono.TheConstants.{VARS}
 use Rattle.system_text.specs.Faults.{Refusal}
 use Rattle.system_text.specs.Lines.{TextSystem, read_text}
 use Rattle.tri_io.specs.Commands.{Options, IsCommand}
-use Rattle.tri_io.specs.declared.input.Input.{Input}
-use Rattle.tri_io.specs.declared.input.Input.TheVariants.{Whole, TooLong}
 use Rattle.report_text.specs.declared.status.Status.{Status}
-use Rattle.report_text.specs.declared.status.Status.TheVariants.{Chains, Stopped, Usage, Refused}
+use Rattle.report_text.specs.declared.status.Status.TheVariants.{Chains, Stopped, Usage, Refused, ReadFault, WriteFault, OutOfMemory}
 use Rattle.report_text.specs.Lines.{refused_line, too_long_line, usage_line}
-use Rattle.solver_reports.specs.Texts.{Walk, walk_of}
-use Rattle.tri_alone.specs.Answers.{answer_of_system}
+use Rattle.report_text.specs.Answers.{answer_text, is_stopped}
+use Rattle.run_rules.specs.Programs.{Ending, Program}
+use Rattle.split_paths.specs.Answer.{Answer}
+use Rattle.impose_rules.specs.Leaves.{Leaf}
+use Rattle.case_laws.specs.Laws.{answer_to}
+use Rattle.case_tree.specs.Systems.{polynomial_system_of}
 
--- a status, and the text that is written with it
-pub record Outcome : Type 0 where
-  pub status : Status
-  pub text : List ℕ
+-- the answer to a system, in n exponents, by the options: that of its tree of cases
+abbrev pub answer_of_system : ℕ → Options → TextSystem → Answer Leaf
+answer_of_system n options system =
+    answer_to n options.width options.steps (polynomial_system_of system)
 
--- a refusal
-abbrev pub refusal : List ℕ → Outcome
+-- on a system: with the text of its answer
+abbrev pub ending_of_system : ℕ → Options → TextSystem → Ending Status
+ending_of_system n options system =
+    let answer = answer_of_system n options system in
+    record {
+      status = cond (is_stopped answer.stop) Stopped Chains;
+      text = answer_text system.names system.nonzero answer;
+    }
+
+-- with a refusal
+abbrev pub refusal : List ℕ → Ending Status
 refusal text = record { status = Refused; text = text }
 
--- the report of an answer
-abbrev pub outcome_of_walk : Walk → Outcome
-outcome_of_walk walk = record { status = cond walk.stopped Stopped Chains; text = walk.text }
+-- on a text, by what is read of it
+abbrev pub ending_of_reading : ℕ → Options → Result TextSystem Refusal → Ending Status
+ending_of_reading n options (Ok system) = ending_of_system n options system
+ending_of_reading n options (Err e) = refusal (refused_line e.number e.line e.byte)
 
--- of a system
-abbrev pub outcome_of_system : ℕ → Options → TextSystem → Outcome
-outcome_of_system n options system = outcome_of_walk (walk_of system.names (answer_of_system n options system))
+-- the solver, on one thread or with workers, over polynomials in n exponents
+abbrev pub solver : Bool → ℕ → Program Options Status
+solver with_workers n = record {
+  IsCommand = IsCommand with_workers;
+  reads = λ options. true;
+  ending = λ options bytes. ending_of_reading n options (read_text n bytes);
+  too_long = refusal too_long_line;
+  usage = record { status = Usage; text = usage_line with_workers };
+  read_fault = ReadFault;
+  write_fault = WriteFault;
+  out_of_memory = OutOfMemory;
+}
 
--- of a text by what is read of it
-abbrev pub outcome_of_reading : ℕ → Options → Result TextSystem Refusal → Outcome
-outcome_of_reading n options (Ok system) = outcome_of_system n options system
-outcome_of_reading n options (Err e) = refusal (refused_line e.number e.line e.byte)
-
--- the most bytes that are read as a text
-abbrev pub most_bytes : ℕ
-most_bytes = 1048576
-
--- of the bytes of an input
-abbrev pub outcome_of_bytes : ℕ → Options → List ℕ → Outcome
-outcome_of_bytes n options bytes = cond (ltb most_bytes (length bytes)) (refusal too_long_line) (outcome_of_reading n options (read_text n bytes))
-
--- products have to fit a width from 1 to 1,000,000
-abbrev pub HasWidth : Options → Type 0
-HasWidth options = (1 ≤ options.width) × (options.width ≤ 1000000)
-
--- what was read is not too long for a text
-abbrev pub FitsText : Input → Type 0
-FitsText (Whole bytes) = length bytes.items ≤ most_bytes
-FitsText TooLong = Unit {0}
-
--- of what was read of a source
-abbrev pub outcome_of_input : ℕ → Options → Input → Outcome
-outcome_of_input n options (Whole bytes) = outcome_of_reading n options (read_text n bytes.items)
-outcome_of_input n options TooLong = refusal too_long_line
-
--- the words are no command
-abbrev pub IsNoCommand : List (List ℕ) → Type 0
-IsNoCommand words = (options : Options) → IsCommand false words options → ⊥
-
--- the words are a command, and this is the outcome of the bytes by its options
-pub record IsAnswer (n : ℕ) (words : List (List ℕ)) (bytes : List ℕ) (outcome : Outcome) : Type 0 where
-  pub options : Options
-  pub command : IsCommand false words options
-  pub same : outcome ≡ outcome_of_bytes n options bytes
-
--- the line that says how the program is called
-abbrev pub usage_outcome : Outcome
-usage_outcome = record { status = Usage; text = usage_line false }
-
--- of the words of the command line and the bytes of the input: the line that says how the program is
--- called, where the words are no command
-abbrev pub IsExpected : ℕ → List (List ℕ) → List ℕ → Outcome → Type 0
-IsExpected n words bytes outcome = IsAnswer n words bytes outcome ⊎ (IsNoCommand words × (outcome ≡ usage_outcome))
+-- the solver on one thread
+abbrev pub alone : Program Options Status
+alone = solver false VARS

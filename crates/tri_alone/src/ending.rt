@@ -1,10 +1,11 @@
-ghost use Rattle.std.specs.Prelude.{◌≡◌, ◌≤◌, cond, length, IfOk};
+ghost use Rattle.std.specs.Prelude.{◌≡◌, ◌≤◌, cond, false, length, IfOk};
 ghost use Rattle.system_text.specs.Lines.{read_text};
 ghost use Rattle.system_text.specs.Laws.{IsSystem};
 ghost use Rattle.system_parser.specs.Systems.{text_system_of};
 ghost use Rattle.case_tree.specs.Systems.{IsSolvable};
-ghost use Rattle.tri_alone.specs.Expected.{outcome_of_input, outcome_of_reading, outcome_of_system, FitsText, HasWidth};
-ghost use Rattle.tri_alone.specs.Solvable.{IsInputSolvable, IsReadingSolvable};
+ghost use Rattle.run_rules.specs.Programs.{ending_of_input};
+ghost use Rattle.tri_alone.specs.Solver.{alone, ending_of_reading, ending_of_system};
+ghost use Rattle.tri_alone.specs.Solvable.{FitsText, HasWidth, IsInputSolvable, IsReadingSolvable};
 
 use case_tree::Cases;
 use mono_words::VARS;
@@ -19,50 +20,52 @@ use tri_io::{Command, Input};
 
 /// A status, and the text that is written with it.
 #[derive(Drop)]
-pub struct Answer {
+pub struct Ending {
     pub status: Status,
     pub text: String,
 }
 
-impl Model for Answer {
+impl Model for Ending {
     ghost use Rattle.std.specs.Prelude.{string_bytes};
-    ghost use Rattle.tri_alone.specs.Expected.{Outcome};
+    ghost use Rattle.report_text.specs.declared.status.Status.{Status};
+    ghost use Rattle.run_rules.specs.Programs.{Ending};
 
-    ghost Value = { Outcome };
+    ghost Value = { Ending Status };
 
-    ghost view = { λ answer. record { status = answer.status; text = string_bytes answer.text } };
+    ghost view = { λ ending. record { status = ending.status; text = string_bytes ending.text } };
 }
 
-/// What is to be written for what was read of a source.
-pub fn answer_to_input(
+/// How a run with this command ends, by what was read of its source.
+pub fn ending_of_input(
     alloc: Global,
     command: &Command,
     input: &Input,
-) -> Result<Answer, AllocError>
+) -> Result<Ending, AllocError>
     requires width { HasWidth command.now }
     requires fits { FitsText input.now }
-    ensures outcome { IfOk result (λ a. a ≡ outcome_of_input VARS command.now input.now) }
-    ensures solvable { IfOk result (λ a. IsInputSolvable VARS input.now) }
+    ensures ending { IfOk result (λ e. e ≡ ending_of_input alone command.now input.now) }
+    ensures solvable { IfOk result (λ e. IsInputSolvable VARS input.now) }
 {
     match input {
-        Input::Whole(bytes) => answer_to_text(alloc, command, bytes),
-        Input::TooLong => Ok(Answer {
+        Input::Whole(bytes) => ending_of_text(alloc, command, bytes),
+        Input::TooLong => Ok(Ending {
             status: Status::Refused,
             text: print_too_long(alloc)?,
         }),
     }
 }
 
-/// What is to be written for the bytes of an input.
-fn answer_to_text(alloc: Global, command: &Command, bytes: &[u8]) -> Result<Answer, AllocError>
+/// How it ends on these bytes.
+fn ending_of_text(alloc: Global, command: &Command, bytes: &[u8]) -> Result<Ending, AllocError>
     requires width { HasWidth command.now }
     requires length { length bytes.now ≤ 1_048_576 }
-    ensures outcome { IfOk result (λ a. a ≡ outcome_of_reading VARS command.now (read_text VARS bytes.now)) }
-    ensures solvable { IfOk result (λ a. IsReadingSolvable (read_text VARS bytes.now)) }
+    ensures ending { IfOk result (λ e.
+        e ≡ ending_of_reading VARS command.now (read_text VARS bytes.now)) }
+    ensures solvable { IfOk result (λ e. IsReadingSolvable (read_text VARS bytes.now)) }
 {
     match parse(alloc, bytes) {
-        Ok(system) => answer_to_system(alloc, command, system),
-        Err(ParseFault::Refused(refusal)) => Ok(Answer {
+        Ok(system) => ending_of_system(alloc, command, system),
+        Err(ParseFault::Refused(refusal)) => Ok(Ending {
             status: Status::Refused,
             text: print_refused(alloc, &refusal)?,
         }),
@@ -70,12 +73,13 @@ fn answer_to_text(alloc: Global, command: &Command, bytes: &[u8]) -> Result<Answ
     }
 }
 
-/// What is to be written for a system: the report of its tree of cases.
-fn answer_to_system(alloc: Global, command: &Command, system: System) -> Result<Answer, AllocError>
+/// How it ends on a system: with the report of its tree of cases.
+fn ending_of_system(alloc: Global, command: &Command, system: System) -> Result<Ending, AllocError>
     requires width { HasWidth command.now }
     requires lawful { IsSystem VARS (text_system_of system) }
-    ensures outcome { IfOk result (λ a. a ≡ outcome_of_system VARS command.now (text_system_of system)) }
-    ensures solvable { IfOk result (λ a. IsSolvable (text_system_of system)) }
+    ensures ending { IfOk result (λ e.
+        e ≡ ending_of_system VARS command.now (text_system_of system)) }
+    ensures solvable { IfOk result (λ e. IsSolvable (text_system_of system)) }
 {
     let cases = Cases::new(system, command.width);
     let root = Offer {
@@ -83,8 +87,9 @@ fn answer_to_system(alloc: Global, command: &Command, system: System) -> Result<
         steps: command.steps,
         task: cases.root(alloc)?,
     };
-    let walked = walk(alloc, &cases.system().names, &cases, root)?;
-    Ok(Answer {
+    let System { names, nonzero, .. } = cases.system();
+    let walked = walk(alloc, names, nonzero, &cases, root)?;
+    Ok(Ending {
         status: status_of(walked.stopped),
         text: walked.text,
     })

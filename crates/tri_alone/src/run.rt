@@ -1,10 +1,12 @@
-ghost use Rattle.std.specs.Prelude.{◌≡◌, ◌⊎◌, false, map, IfOk, IfSome, IsErrOf, string_bytes};
-ghost use Rattle.tri_alone.specs.Expected.{IsNoCommand, usage_outcome};
-ghost use Rattle.tri_alone.specs.Runs.{AreCommand, Ends, IsExpectedAnswer, IsSolved, Leaves, Writes, IsOfAnswer, IsOfSystem, IsOfText};
+ghost use Rattle.std.specs.Prelude.{◌≡◌, ◌≢◌, [], ◌∷◌, false, map, Contains, IfOk, IfSome, OnOk, OnErr, IsErrOf, string_bytes};
 ghost use Rattle.tri_io.specs.Commands.{IsCommand};
 ghost use Rattle.tri_io.specs.Faults.{Rose};
+ghost use Rattle.run_rules.specs.Programs.{IsExpected, IsNoCommand, IsReader};
+ghost use Rattle.run_rules.specs.Runs.{Ends, Leaves, Writes};
+ghost use Rattle.tri_alone.specs.Solver.{alone};
+ghost use Rattle.tri_alone.specs.Solved.{IsAnswered, IsOfSystem, IsSolved};
 
-use crate::answer::{Answer, answer_to_input};
+use crate::ending::{Ending, ending_of_input};
 use mono_words::VARS;
 use report_text::{Status, print_usage};
 use std::alloc::{AllocError, Global};
@@ -20,35 +22,39 @@ pub fn run_alone<S: Source, K: Sink>(
     source: &mut S,
     sink: &mut K,
 ) -> Status
-    // What is written, and what is read, where the ends tell it.
-    ensures ends { IfSome (S.left source.old) (λ bytes. Ends VARS (map string_bytes words.now) bytes
-        (Rose (S.faults source.old) (S.faults source.new)) (Rose (K.faults sink.old) (K.faults sink.new))
-        (K.taken sink.old) (K.taken sink.new) result) }
-    ensures leaves { IfSome (S.left source.old) (λ bytes. Leaves bytes (S.left source.new) result) }
+    // What is written, and what is left of the input, where the ends tell it.
+    ensures ends { Ends alone (map string_bytes words.now) (S.left source.old)
+        (Rose (S.faults source.old) (S.faults source.new))
+        (Rose (K.faults sink.old) (K.faults sink.new))
+        (K.taken sink.old) (K.taken sink.new) result }
+    ensures leaves { IfSome (S.left source.old) (λ bytes.
+        Leaves alone (map string_bytes words.now) bytes (S.left source.new) result) }
 
-    // The points of the chains that are printed are common zeros of the system that was read, and all
-    // of them where no branch passed a limit.
-    ensures solved { IsOfSystem result → IfSome (S.left source.old) (λ bytes.
-        IsSolved VARS (map string_bytes words.now) bytes (K.taken sink.old) (K.taken sink.new) result) }
+    // The chains that are printed are triangular sets. Their points are solutions of the system that
+    // was read, and all of them where no branch passed a limit.
+    ensures solved { IsOfSystem result → IsSolved VARS (map string_bytes words.now)
+        (S.left source.old) (K.taken sink.old) (K.taken sink.new) result }
 
     // Where the words are no command, nothing is read.
-    ensures usage { result ≡ Status.Usage → IsNoCommand (map string_bytes words.now) }
-    ensures unread { IsNoCommand (map string_bytes words.now) → source.new ≡ source.old }
-    ensures words { IsNoCommand (map string_bytes words.now) → (result ≡ Status.Usage)
-        ⊎ ((result ≡ Status.WriteFault) ⊎ (result ≡ Status.OutOfMemory)) }
+    ensures usage { result ≡ Status.Usage → IsNoCommand alone (map string_bytes words.now) }
+    ensures unread { IsNoCommand alone (map string_bytes words.now) → source.new ≡ source.old }
+    ensures words { IsNoCommand alone (map string_bytes words.now)
+        → Contains (Status.Usage ∷ Status.WriteFault ∷ Status.OutOfMemory ∷ []) result }
 
-    // A fault is answered where its count rose.
+    // A fault is answered where its count rose, and each fault that was counted is.
     ensures read_fault { result ≡ Status.ReadFault
         → Rose (S.faults source.old) (S.faults source.new) }
     ensures write_fault { result ≡ Status.WriteFault
         → Rose (K.faults sink.old) (K.faults sink.new) }
+    ensures read_answered { S.faults source.new ≢ S.faults source.old → result ≡ Status.ReadFault }
+    ensures write_answered { K.faults sink.new ≢ K.faults sink.old → result ≡ Status.WriteFault }
 
     // Nothing is written after a failed read or without memory.
     ensures unwritten { result ≡ Status.ReadFault → sink.new ≡ sink.old }
     ensures silent { result ≡ Status.OutOfMemory → sink.new ≡ sink.old }
 {
     match prepared(alloc, words, source) {
-        Ok(answer) => written(sink, &answer),
+        Ok(ending) => written(sink, &ending),
         Err(Silence::ReadFault) => Status::ReadFault,
         Err(Silence::OutOfMemory) => Status::OutOfMemory,
     }
@@ -62,34 +68,46 @@ pub enum Silence {
 }
 
 /// What is to be written, by the words and by what is read of the source.
-fn prepared<S: Source>(alloc: Global, words: &[String], source: &mut S) -> Result<Answer, Silence>
-    ensures expected { IfOk result (λ a. IfSome (S.left source.old) (λ bytes.
-        IsExpectedAnswer VARS (map string_bytes words.now) bytes a)) }
-    ensures leaves { IfOk result (λ a. IfSome (S.left source.old) (λ bytes.
-        Leaves bytes (S.left source.new) a.status)) }
-    ensures status { IfOk result (λ a. IsOfAnswer a.status) }
-    ensures usage { IfOk result (λ a. a.status ≡ Status.Usage → IsNoCommand (map string_bytes words.now)) }
-    ensures words { IfOk result (λ a. IsNoCommand (map string_bytes words.now) → a.status ≡ Status.Usage) }
-    ensures unread { IsNoCommand (map string_bytes words.now) → source.new ≡ source.old }
-    ensures command { IsErrOf result Silence.ReadFault → AreCommand (map string_bytes words.now) }
-    ensures fault { IsErrOf result Silence.ReadFault → Rose (S.faults source.old) (S.faults source.new) }
+fn prepared<S: Source>(alloc: Global, words: &[String], source: &mut S) -> Result<Ending, Silence>
+    ensures expected { IfOk result (λ e.
+        IsExpected alone (map string_bytes words.now) (S.left source.old) e) }
+    ensures answered { IfOk result (λ e. IsOfSystem e.status
+        → IsAnswered VARS (map string_bytes words.now) (S.left source.old) e) }
+    ensures usage { IfOk result (λ e.
+        e.status ≡ Status.Usage → IsNoCommand alone (map string_bytes words.now)) }
+    ensures words { IfOk result (λ e.
+        IsNoCommand alone (map string_bytes words.now) → e.status ≡ Status.Usage) }
+    ensures unread { IsNoCommand alone (map string_bytes words.now) → source.new ≡ source.old }
+
+    // What is left of the input, with any status that the text ends with, or that stands for none.
+    ensures leaves { OnOk result ((status : Status) → IfSome (S.left source.old) (λ bytes.
+        Leaves alone (map string_bytes words.now) bytes (S.left source.new) status)) }
+    ensures leaves_fault { OnErr result ((status : Status)
+        → Contains (Status.ReadFault ∷ Status.OutOfMemory ∷ []) status
+        → IfSome (S.left source.old) (λ bytes.
+        Leaves alone (map string_bytes words.now) bytes (S.left source.new) status)) }
+
+    ensures command { IsErrOf result Silence.ReadFault
+        → IsReader alone (map string_bytes words.now) }
+    ensures fault { IsErrOf result Silence.ReadFault
+        → Rose (S.faults source.old) (S.faults source.new) }
+    ensures fault_answered { S.faults source.new ≢ S.faults source.old
+        → IsErrOf result Silence.ReadFault }
 {
     match command_of(words, false) {
-        Ok(command) => read_answer(alloc, words, &command, source),
-        Err(WordsFault::NotACommand) => usage(alloc, words),
+        Ok(command) => read_ending(alloc, words, &command, source),
+        Err(WordsFault::NotACommand) => usage(alloc),
         Err(WordsFault::Memory(_)) => Err(Silence::OutOfMemory),
     }
 }
 
 /// The line that says how the program is called.
-fn usage(alloc: Global, words: &[String]) -> Result<Answer, Silence>
-    requires { IsNoCommand (map string_bytes words.now) }
-    ensures usage { IfOk result (λ a. a ≡ usage_outcome) }
-    ensures quiet { IsErrOf result Silence.ReadFault → ⊥ }
+fn usage(alloc: Global) -> Result<Ending, Silence>
+    ensures usage { IfOk result (λ e. e ≡ alone.usage) }
+    ensures quiet { OnErr result (IsErrOf result Silence.OutOfMemory) }
 {
-    let _count = words.len();
     match print_usage(alloc, false) {
-        Ok(text) => Ok(Answer {
+        Ok(text) => Ok(Ending {
             status: Status::Usage,
             text,
         }),
@@ -98,38 +116,48 @@ fn usage(alloc: Global, words: &[String]) -> Result<Answer, Silence>
 }
 
 /// What is to be written for what is read of the source, where the words are this command.
-fn read_answer<S: Source>(
+fn read_ending<S: Source>(
     alloc: Global,
     words: &[String],
     command: &Command,
     source: &mut S,
-) -> Result<Answer, Silence>
+) -> Result<Ending, Silence>
     requires { IsCommand false (map string_bytes words.now) command.now }
-    ensures expected { IfOk result (λ a. IfSome (S.left source.old) (λ bytes.
-        IsExpectedAnswer VARS (map string_bytes words.now) bytes a)) }
-    ensures leaves { IfOk result (λ a. IfSome (S.left source.old) (λ bytes.
-        Leaves bytes (S.left source.new) a.status)) }
-    ensures status { IfOk result (λ a. IsOfText a.status) }
-    ensures fault { IsErrOf result Silence.ReadFault → Rose (S.faults source.old) (S.faults source.new) }
+    ensures expected { IfOk result (λ e.
+        IsExpected alone (map string_bytes words.now) (S.left source.old) e) }
+    ensures answered { IfOk result (λ e. IsOfSystem e.status
+        → IsAnswered VARS (map string_bytes words.now) (S.left source.old) e) }
+    ensures usage { IfOk result (λ e. e.status ≢ Status.Usage) }
+    ensures leaves { OnOk result ((status : Status) → IfSome (S.left source.old) (λ bytes.
+        Leaves alone (map string_bytes words.now) bytes (S.left source.new) status)) }
+    ensures leaves_fault { OnErr result ((status : Status)
+        → Contains (Status.ReadFault ∷ Status.OutOfMemory ∷ []) status
+        → IfSome (S.left source.old) (λ bytes.
+        Leaves alone (map string_bytes words.now) bytes (S.left source.new) status)) }
+    ensures fault { IsErrOf result Silence.ReadFault
+        → Rose (S.faults source.old) (S.faults source.new) }
+    ensures fault_answered { S.faults source.new ≢ S.faults source.old
+        → IsErrOf result Silence.ReadFault }
 {
-    let _count = words.len();
     let input = match read_all(alloc, source, MOST_BYTES) {
         Ok(input) => input,
         Err(ReadFail::Fault) => return Err(Silence::ReadFault),
         Err(ReadFail::Memory(_)) => return Err(Silence::OutOfMemory),
     };
-    match answer_to_input(alloc, command, &input) {
-        Ok(answer) => Ok(answer),
+    match ending_of_input(alloc, command, &input) {
+        Ok(ending) => Ok(ending),
         Err(AllocError) => Err(Silence::OutOfMemory),
     }
 }
 
-/// The status of an answer, where its text is written whole.
-fn written<K: Sink>(sink: &mut K, answer: &Answer) -> Status
-    ensures { Writes answer.now (Rose (K.faults sink.old) (K.faults sink.new)) (K.taken sink.old) (K.taken sink.new) result }
+/// The status of an ending, where its text is written whole.
+fn written<K: Sink>(sink: &mut K, ending: &Ending) -> Status
+    ensures writes { Writes alone ending.now (Rose (K.faults sink.old) (K.faults sink.new))
+        (K.taken sink.old) (K.taken sink.new) result }
+    ensures answered { K.faults sink.new ≢ K.faults sink.old → result ≡ Status.WriteFault }
 {
-    match write_all(sink, answer.text.as_bytes()) {
-        Ok(()) => answer.status,
+    match write_all(sink, ending.text.as_bytes()) {
+        Ok(()) => ending.status,
         Err(_) => Status::WriteFault,
     }
 }

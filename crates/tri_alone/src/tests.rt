@@ -108,6 +108,32 @@ fn a_system_has_the_chains_of_its_tree(rt: HostRuntime) -> Result<(), Fail> {
 }
 
 #[test]
+fn points_where_a_nonzero_polynomial_is_zero_are_left_out(rt: HostRuntime) -> Result<(), Fail> {
+    for (text, written) in [
+        (
+            b"prime 5\norder x\nx^2 + 4*x\nnonzero x\n".as_slice(),
+            b"nonzero x\nchain -\npoly x + 4\nend 1\n".as_slice(),
+        ),
+        (
+            b"prime 5\norder x y\nnonzero x\nx*y\n",
+            b"nonzero x\nchain -\npoly y\nend 1\n",
+        ),
+        (
+            b"prime 5\norder x y\nx*y^2 + y + 1\nnonzero x\n",
+            b"nonzero x\nchain -\npoly x*y^2 + y + 1\nend 1\n",
+        ),
+        (b"prime 5\norder x\nx\nnonzero 5\n", b"nonzero 0\nend 0\n"),
+        (
+            b"prime 5\norder x\nx\nnonzero 8\n",
+            b"nonzero 3\nchain -\npoly x\nend 1\n",
+        ),
+    ] {
+        check_run(&rt, rt.alloc(), text, Status::Chains, written)?;
+    }
+    Ok(())
+}
+
+#[test]
 fn a_text_that_is_no_system_has_its_refusal(rt: HostRuntime) -> Result<(), Fail> {
     for (text, written) in [
         (b"".as_slice(), b"refused 2 line 1 byte 1\n".as_slice()),
@@ -135,6 +161,11 @@ fn a_text_that_is_no_system_has_its_refusal(rt: HostRuntime) -> Result<(), Fail>
             b"refused 11 line 3 byte 9\n",
         ),
         (b"prime 5\norder x\n\xff\n", b"refused 1 line 3 byte 1\n"),
+        (b"prime 5\norder x\nnonzero\n", b"refused 8 line 3 byte 8\n"),
+        (
+            b"prime 5\norder x\nx + nonzero\n",
+            b"refused 7 line 3 byte 5\n",
+        ),
     ] {
         check_run(&rt, rt.alloc(), text, Status::Refused, written)?;
     }

@@ -1,10 +1,10 @@
 -- The walk was that of the system's tree.
 use Rattle.std.proofs.Common.{ap, ◌∙◌}
-use Rattle.tri_alone.proofs.Systems.{walked_outcome}
-use Rattle.tri_alone.proofs.answer.answer_to_system.Goals as goal
+use Rattle.tri_alone.proofs.Systems.{walked_ending}
+use Rattle.tri_alone.proofs.ending.ending_of_system.Goals as goal
 
-pub returns-clause-outcome : goal.returns-clause-outcome
-returns-clause-outcome c =
+pub returns-clause-ending : goal.returns-clause-ending
+returns-clause-ending c =
     let width = ap (λ o. o.width) c.command.view_is in
     let steps = ap (λ o. o.steps) c.command.view_is in
-    walked_outcome c.args.command.now _ _ _ _ _ _ _ _ c.new-cases.ensures.system (c.new-cases.ensures.width ∙ width) c.system.ensures c.root.ensures steps c.in_ok-root.ensures.task (c.walked.view_is ∙ c.in_ok-walked.ensures) c.status_of.ensures
+    walked_ending c.args.command.now _ _ _ _ _ _ _ _ c.new-cases.ensures.system (c.new-cases.ensures.width ∙ width) c.system.ensures c.root.ensures steps c.in_ok-root.ensures.task (c.walked.view_is ∙ c.in_ok-walked.ensures) c.status_of.ensures

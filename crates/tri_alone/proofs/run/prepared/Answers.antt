@@ -1,13 +1,29 @@
--- Words that are no command have the usage line.
+-- Words that are no command have the usage line, and nothing is read.
 use Rattle.std.proofs.Common.{map, string_bytes, ap, Err}
-use Rattle.tri_alone.proofs.Usages.{usage_expected, usage_tells}
+use Rattle.tri_alone.proofs.Usages.{usage_expected, usage_answered, usage_tells, usage_is, usage_leaves, usage_leaves_fault}
 use Rattle.tri_alone.proofs.run.prepared.Goals as goal
 
-pub usage-requires : goal.usage-requires
-usage-requires g c = c.in-Err-NotACommand.ensures.refused (ap Err c.in-Err-NotACommand.field-0-is)
-
 pub returns-in-Err-NotACommand-clause-expected : goal.returns-in-Err-NotACommand-clause-expected
-returns-in-Err-NotACommand-clause-expected g c = usage_expected _ (map string_bytes c.args.words.now) _ _ (c.in-Err-NotACommand.ensures.refused (ap Err c.in-Err-NotACommand.field-0-is)) c.usage.ensures.usage
+returns-in-Err-NotACommand-clause-expected g c = usage_expected (map string_bytes c.args.words.now) _ _ (c.in-Err-NotACommand.ensures.refused (ap Err c.in-Err-NotACommand.field-0-is)) c.usage.ensures.usage
+
+pub returns-in-Err-NotACommand-clause-answered : goal.returns-in-Err-NotACommand-clause-answered
+returns-in-Err-NotACommand-clause-answered g c = usage_answered (map string_bytes c.args.words.now) _ _ c.usage.ensures.usage
 
 pub returns-in-Err-NotACommand-clause-usage : goal.returns-in-Err-NotACommand-clause-usage
 returns-in-Err-NotACommand-clause-usage g c = usage_tells (map string_bytes c.args.words.now) _ (c.in-Err-NotACommand.ensures.refused (ap Err c.in-Err-NotACommand.field-0-is))
+
+pub returns-in-Err-NotACommand-clause-words : goal.returns-in-Err-NotACommand-clause-words
+returns-in-Err-NotACommand-clause-words g c = usage_is (map string_bytes c.args.words.now) _ c.usage.ensures.usage
+
+pub returns-in-Err-NotACommand-clause-leaves : goal.returns-in-Err-NotACommand-clause-leaves
+returns-in-Err-NotACommand-clause-leaves g c = usage_leaves (map string_bytes c.args.words.now) _ _ (c.in-Err-NotACommand.ensures.refused (ap Err c.in-Err-NotACommand.field-0-is))
+
+pub returns-in-Err-NotACommand-clause-leaves_fault : goal.returns-in-Err-NotACommand-clause-leaves_fault
+returns-in-Err-NotACommand-clause-leaves_fault g c = usage_leaves_fault (map string_bytes c.args.words.now) _ _ (c.in-Err-NotACommand.ensures.refused (ap Err c.in-Err-NotACommand.field-0-is))
+
+-- words are read without memory
+pub returns-in-Err-Memory-clause-leaves_fault : goal.returns-in-Err-Memory-clause-leaves_fault
+returns-in-Err-Memory-clause-leaves_fault g c =
+    let memory = c.in-Err-Memory.field-0-is in
+    let cause = c.in-Err-Memory.ensures.cause in
+    cc
