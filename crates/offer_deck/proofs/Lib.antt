@@ -1,0 +1,4 @@
+pub mod Counts
+pub mod Deals
+pub mod NewThieves
+pub mod ComingHome

@@ -1,0 +1,5 @@
+pub mod Passes
+pub mod Rule
+pub mod Views
+pub mod Desks
+pub mod Dealt
