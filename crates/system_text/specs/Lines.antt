@@ -76,7 +76,8 @@ read_nonzero s line = read_tokens s (length line + 1) (drop 1 (tokens line)) sta
 abbrev pub read_polynomial : ℕ → TextSystem → List ℕ → Result TextSystem Fault
 read_polynomial n system line =
     cond (is_nonzero_line line)
-    (and_then_read (read_nonzero (setting_of n system) line) (λ f. Ok (with_nonzero_polynomial system f)))
+    (and_then_read (read_nonzero (setting_of n system) line)
+    (λ f. Ok (with_nonzero_polynomial system f)))
     (and_then_read (read_sum (setting_of n system) line) (λ f. Ok (with_input system f)))
 
 -- a line that isn't skipped, after what was read before it
