@@ -34,5 +34,5 @@ SplitsValue p v f lead tail =
     (r : Tables) (xs : List ℕ) → IsFiniteDomain p r → IsPoint r xs →
     value_at r xs f
     ≡ plus_in r
-        (times_in r (value_at r xs lead) (power_at r (get_or xs v r.one) (degree_in v f)))
-        (value_at r xs tail)
+    (times_in r (value_at r xs lead) (power_at r (get_or xs v r.one) (degree_in v f)))
+    (value_at r xs tail)

@@ -16,10 +16,10 @@ module _ {A : Type 0} where
       → EachAt IsSo (set xs place new)
   each_set IsSo xs place new mine others other x at =
       ⊎_elim
-        (λ (same : (other ≡ place) × (new ≡ x)).
-          subst (λ (y : ℕ × A). IsSo y.0 y.1) (λ i. (sym same.0 i, same.1 i)) mine)
-        (λ (apart : (other ≢ place) × HasAt xs other x). others other x apart.0 apart.1)
-        (at_set xs place other new x at)
+      (λ (same : (other ≡ place) × (new ≡ x)).
+      subst (λ (y : ℕ × A). IsSo y.0 y.1) (λ i. (sym same.0 i, same.1 i)) mine)
+      (λ (apart : (other ≢ place) × HasAt xs other x). others other x apart.0 apart.1)
+      (at_set xs place other new x at)
 
   -- an item of a longer list is one of the list, or the new one at its end
   pub at_end : (xs : List A) (new x : A) (place : ℕ) → HasAt (xs ++ new ∷ []) place x
@@ -37,10 +37,10 @@ module _ {A : Type 0} where
       → EachAt IsSo (xs ++ new ∷ [])
   each_end IsSo xs new each last place x at =
       ⊎_elim
-        (λ (there : HasAt xs place x). each place x there)
-        (λ (end : (place ≡ length xs) × (new ≡ x)).
-          subst (λ (y : ℕ × A). IsSo y.0 y.1) (λ i. (sym end.0 i, end.1 i)) last)
-        (at_end xs new x place at)
+      (λ (there : HasAt xs place x). each place x there)
+      (λ (end : (place ≡ length xs) × (new ≡ x)).
+      subst (λ (y : ℕ × A). IsSo y.0 y.1) (λ i. (sym end.0 i, end.1 i)) last)
+      (at_end xs new x place at)
 
   -- of a list of one
   pub each_one : (IsSo : ℕ → A → Type 0) (x : A) → IsSo 0 x → EachAt IsSo (x ∷ [])
@@ -53,5 +53,5 @@ module _ {A : Type 0} where
       omega (arith, sum_by-cons weight new xs, sum_by-cons weight x xs)
   sum_moves weight (x ∷ xs) (suc place) old new at =
       let rest : sum_by weight (set xs place new) + weight old ≡ sum_by weight xs + weight new =
-        sum_moves weight xs place old new at in
+      sum_moves weight xs place old new at in
       omega (arith, sum_by-cons weight x (set xs place new), sum_by-cons weight x xs)
