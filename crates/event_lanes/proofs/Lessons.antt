@@ -4,7 +4,7 @@ use Rattle.crossbeam_queue.specs.Fifo.{Learns, Held}
 use Rattle.split_paths.proofs.Lists.{all_weaker}
 use Rattle.event_lanes.proofs.Lanes.{of_lane-append, prefix_of, all_made, all_of_one}
 use Rattle.event_lanes.specs.Posts.{of_lane, ArePrefixes, AllTaken}
-use Rattle.event_lanes.specs.Rule.{Keeps, Beside}
+use Rattle.event_lanes.specs.Rule.{KeepsHub, Beside}
 use Rattle.event_lanes.specs.Views.{HeldBeside}
 use Rattle.split_paths.specs.Key.{IsTrueEvent}
 use Rattle.split_paths.specs.declared.event.Event.{Event}
@@ -12,7 +12,7 @@ use Rattle.event_lanes.specs.declared.rule.Post.{Post}
 use Rattle.event_lanes.specs.declared.rule.View.{View}
 
 module _ {A : Type 0} (IsTrue : A → Type 0) where
-  pub stands : (pass : ℕ) (v : View A) → Learns (Keeps IsTrue) pass v (Beside IsTrue v)
+  pub stands : (pass : ℕ) (v : View A) → Learns (KeepsHub IsTrue) pass v (Beside IsTrue v)
   stands pass v items views keeps at_pass = (views, pass, keeps, at_pass)
 
   -- what was taken of a lane that was given back is the beginning of what it put

@@ -9,12 +9,12 @@ use Rattle.tally_laws.specs.Places.{HasAt}
 use Rattle.event_lanes.proofs.Updates.{at, at-here, at-else}
 use Rattle.event_lanes.specs.declared.rule.View.{View}
 use Rattle.event_lanes.specs.Passes.{drain_pass, spent_pass, grown, with_made, new_lane, with_back}
-use Rattle.event_lanes.specs.Rule.{Traffic, FitsBack, FitsPass, Keeps}
+use Rattle.event_lanes.specs.Rule.{Traffic, FitsBack, FitsPass, KeepsHub}
 use Rattle.event_lanes.proofs.Stays.{lane_stays, back_stays, one_drain, back_apart, lane_apart, spent_fits}
 
 module _ {A : Type 0} where
   module _ (IsTrue : A → Type 0) where
-    pub begins : Keeps IsTrue [] (drain_pass 0 0 [] [] ∷ [])
+    pub begins : KeepsHub IsTrue [] (drain_pass 0 0 [] [] ∷ [])
     begins = (
       record { reader = 0; seat = λ lane. None; sent = λ lane. []; got = []; lanes = 0; made = 0 },
       record {
@@ -32,7 +32,7 @@ module _ {A : Type 0} where
 
     -- before a lane is made, there may be one lane more
     pub grows : (pass : ℕ) (v : View A) → v.drains ≡ true → v.made ≡ 0
-        → Forks (Keeps IsTrue) pass v (grown v) spent_pass
+        → Forks (KeepsHub IsTrue) pass v (grown v) spent_pass
     grows pass v drains none items views (traffic, agrees) at_pass =
         let mine = (agrees.fits pass v at_pass).1 drains in
         let new : Traffic A = record traffic { lanes = traffic.lanes + 1 } in
@@ -70,7 +70,7 @@ module _ {A : Type 0} where
 
     -- a lane is made while there may be more
     pub makes : (pass : ℕ) (v : View A) → v.drains ≡ true → v.made < v.lanes
-        → Forks (Keeps IsTrue) pass v (with_made v) (new_lane v)
+        → Forks (KeepsHub IsTrue) pass v (with_made v) (new_lane v)
     makes pass v drains room items views (traffic, agrees) at_pass =
         let mine = (agrees.fits pass v at_pass).1 drains in
         let seats : ℕ = length (set views pass (with_made v)) in
@@ -134,7 +134,7 @@ module _ {A : Type 0} where
 
     -- a lane is given back
     pub returns : (pass : ℕ) (v : View A) (lane : ℕ) (w : View A) → v.drains ≡ true → w.puts ≡ true
-        → Merges (Keeps IsTrue) pass v lane w (with_back v w) spent_pass
+        → Merges (KeepsHub IsTrue) pass v lane w (with_back v w) spent_pass
     returns pass v lane w drains puts items views (traffic, agrees) at_pass apart at_lane =
         let mine = (agrees.fits pass v at_pass).1 drains in
         let was : HasAt views lane w =

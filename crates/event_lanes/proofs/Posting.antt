@@ -11,7 +11,7 @@ use Rattle.event_lanes.specs.declared.rule.Post.{Post}
 use Rattle.event_lanes.specs.declared.rule.View.{View}
 use Rattle.event_lanes.specs.Passes.{with_put, with_taken}
 use Rattle.event_lanes.specs.Posts.{of_lane}
-use Rattle.event_lanes.specs.Rule.{Traffic, FitsPass, Keeps, IsNext}
+use Rattle.event_lanes.specs.Rule.{Traffic, FitsPass, KeepsHub, IsNext}
 use Rattle.event_lanes.proofs.Stays.{lane_stays, back_stays, one_drain, back_apart, lane_apart}
 
 module _ {A : Type 0} where
@@ -41,7 +41,7 @@ module _ {A : Type 0} where
   module _ (IsTrue : A → Type 0) where
     -- a lane puts a true item
     pub puts : (room pass : ℕ) (v : View A) (x : Post A) → v.puts ≡ true → x.lane ≡ v.number → IsTrue x.item
-        → Pushes (Keeps IsTrue) room pass v x (λ w. w ≡ with_put v x.item)
+        → Pushes (KeepsHub IsTrue) room pass v x (λ w. w ≡ with_put v x.item)
     puts room pass v x may own true_item items views _ (traffic, agrees) at_pass =
         let mine = (agrees.fits pass v at_pass).0 may in
         let longer : List A = traffic.sent v.number ++ x.item ∷ [] in
@@ -104,7 +104,7 @@ module _ {A : Type 0} where
 
     -- the drain takes the item in front
     pub takes : (pass : ℕ) (v : View A) → v.drains ≡ true
-        → Pops (Keeps IsTrue) pass v (λ x w. (w ≡ with_taken v x) × IsNext IsTrue v x)
+        → Pops (KeepsHub IsTrue) pass v (λ x w. (w ≡ with_taken v x) × IsNext IsTrue v x)
     takes pass v drains x items views (traffic, agrees) at_pass =
         let mine = (agrees.fits pass v at_pass).1 drains in
         let new : Traffic A = record traffic { got = traffic.got ++ x ∷ [] } in

@@ -55,13 +55,13 @@ module _ {A : Type 0} (traffic : Traffic A) where
     pub fits : EachAt FitsPass views
 
 -- the rule: some traffic agrees with what the queue holds and with what each pass knows
-abbrev pub Keeps : {A : Type 0} → (A → Type 0) → List (Post A) → List (View A) → Type 0
-Keeps {A} IsTrue items views = (traffic : Traffic A) × Agrees traffic IsTrue items views
+abbrev pub KeepsHub : {A : Type 0} → (A → Type 0) → List (Post A) → List (View A) → Type 0
+KeepsHub {A} IsTrue items views = (traffic : Traffic A) × Agrees traffic IsTrue items views
 
 -- there are views of others that meet the rule beside this one, where the queue holds these items
 abbrev pub Beside : {A : Type 0} → (A → Type 0) → View A → List (Post A) → Type 0
 Beside {A} IsTrue view items =
-    (views : List (View A)) × (pass : ℕ) × Keeps IsTrue items views × HasAt views pass view
+    (views : List (View A)) × (pass : ℕ) × KeepsHub IsTrue items views × HasAt views pass view
 
 -- an item that the drain takes is true, of a lane that was made, and the next that its lane put
 pub record IsNext {A : Type 0} (IsTrue : A → Type 0) (drain : View A) (post : Post A) : Type 0 where

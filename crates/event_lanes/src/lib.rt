@@ -6,6 +6,8 @@ mod hub;
 mod lane;
 mod making;
 mod rule;
+#[cfg(test)]
+mod tests;
 
 pub use drain::{Drain, Rest};
 pub use hub::Hub;

@@ -39,9 +39,9 @@ impl<X: Splitter, N: Named<X::Task, X::Leaf>> Protocol<Post<Event<X::Leaf>>, Vie
     ghost use Rattle.std.specs.Prelude.{[]};
     ghost use Rattle.split_paths.specs.Key.{IsTrueEvent};
     ghost use Rattle.event_lanes.specs.Passes.{drain_pass};
-    ghost use Rattle.event_lanes.specs.Rule.{Keeps};
+    ghost use Rattle.event_lanes.specs.Rule.{KeepsHub};
 
-    ghost holds = { Keeps (IsTrueEvent N.events) };
+    ghost holds = { KeepsHub (IsTrueEvent N.events) };
 
     ghost first = { drain_pass 0 0 [] [] };
 }
