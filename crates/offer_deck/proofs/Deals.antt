@@ -15,7 +15,7 @@ use Rattle.split_paths.specs.Places.{Place}
 use Rattle.offer_deck.specs.Views.{EmptyBeside}
 use Rattle.offer_deck.proofs.Counts.{all_front, all_back, weighs_within, all_at_one}
 use Rattle.offer_deck.specs.declared.rule.View.{View}
-use Rattle.offer_deck.specs.Passes.{owner_pass, thief_pass, spent_pass, with_thief, with_thief_back, with_offers, with_stolen}
+use Rattle.offer_deck.specs.Passes.{owner_pass, thief_pass, idle_pass, with_thief, with_thief_back, with_offers, with_stolen}
 use Rattle.offer_deck.specs.Rule.{Trade, taken_weight, hands_of, FitsOwner, FitsDeck, AgreesOn, KeepsDeck, BesideNone, AreFirst}
 
 module _ {A : Type 0} where
@@ -206,12 +206,12 @@ module _ {A : Type 0} where
 
     -- a thief is given back
     pub returns : (pass : ℕ) (v : View A) (other : ℕ) (w : View A) → v.owns ≡ true → w.owns ≡ false
-        → Merges (KeepsDeck IsTrue) pass v other w (with_thief_back v w) spent_pass
+        → Merges (KeepsDeck IsTrue) pass v other w (with_thief_back v w) idle_pass
     returns pass v other w owns thief items views (trade, agrees) at_pass apart at_other =
         let mine = (agrees.fits pass v at_pass).0 owns in
         let both : View A = with_thief_back v w in
         let half : List (View A) = set views pass both in
-        let now : List (View A) = set half other spent_pass in (
+        let now : List (View A) = set half other idle_pass in (
           trade,
           record {
             known = agrees.known;
@@ -222,17 +222,17 @@ module _ {A : Type 0} where
                 sum_moves (taken_weight weight) views pass v both at_pass in
                 let second : sum_by (taken_weight weight) now + sum_by weight w.taken
                 ≡ sum_by (taken_weight weight) half + 0 =
-                sum_moves (taken_weight weight) half other w spent_pass at_other in
+                sum_moves (taken_weight weight) half other w idle_pass at_other in
                 let was : sum_by (taken_weight weight) views ≡ sum_by weight trade.gone = agrees.once weight in
                 omega (arith, sum_by-append weight v.taken w.taken));
             counted =
                 (let first : sum_by hands_of half + v.hands ≡ sum_by hands_of views + (v.hands + w.hands) =
                 sum_moves hands_of views pass v both at_pass in
                 let second : sum_by hands_of now + w.hands ≡ sum_by hands_of half + 0 =
-                sum_moves hands_of half other w spent_pass at_other in
+                sum_moves hands_of half other w idle_pass at_other in
                 let was : sum_by hands_of views ≡ trade.thieves = agrees.counted in omega arith);
             fits =
-                each_set (FitsDeck trade items) half other spent_pass (idle_fits trade items other spent_pass refl refl)
+                each_set (FitsDeck trade items) half other idle_pass (idle_fits trade items other idle_pass refl refl)
                 (λ place found off at_place.
                 each_set (FitsDeck trade items) views pass both (
                   (λ _. record { only = mine.only; made = mine.made; thieves = mine.thieves }),

@@ -3,3 +3,4 @@ pub mod Rule
 pub mod Views
 pub mod Desks
 pub mod Dealt
+pub mod Fourfold

@@ -14,8 +14,8 @@ module _ {A : Type 0} where
   thief_pass taken = record { owns = false; made = []; thieves = 0; hands = 1; taken = taken }
 
   -- a pass that is no one's
-  abbrev pub spent_pass : View A
-  spent_pass = record { owns = false; made = []; thieves = 0; hands = 0; taken = [] }
+  abbrev pub idle_pass : View A
+  idle_pass = record { owns = false; made = []; thieves = 0; hands = 0; taken = [] }
 
   -- one thief more was made
   abbrev pub with_thief : View A → View A

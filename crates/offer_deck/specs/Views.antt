@@ -46,9 +46,9 @@ module _ {T : Type 0} where
   unfoldable pub EmptyBeside : List (Place T) → View (Place T) → Type 0
   EmptyBeside offers view = BesideNone (IsTrueOffer offers) view
 
-  -- the owner takes back what the thieves took
-  abbrev pub closed : OwnerView T → List (ThiefView T) → SoleView T
-  closed owner thieves =
+  -- the closed deck of an owner that was given back these thieves, with what they took
+  abbrev pub sole_of : OwnerView T → List (ThiefView T) → SoleView T
+  sole_of owner thieves =
       record {
         made = owner.made;
         taken = owner.taken ++ flat_map (λ (thief : ThiefView T). thief.taken) thieves;

@@ -1,7 +1,7 @@
 ghost use Rattle.std.specs.Prelude.{◌≡◌, ◌≤◌, ◌+◌, ◌∷◌, [], ◌++◌, ◌↔◌, length, IfSome, IfNone, IfOk, IfErr, OnOk, IsErr};
 ghost use Rattle.split_paths.specs.Key.{IsTrueOffer};
 ghost use Rattle.tally_laws.specs.Weights.{WeighTheSame};
-ghost use Rattle.offer_deck.specs.Desks.{pass_of_desk, with_thief_home};
+ghost use Rattle.offer_deck.specs.Desks.{IsUnused, pass_of_desk, with_thief_home};
 ghost use Rattle.offer_deck.specs.Views.{EmptyBeside};
 
 use crate::rule::{Law, Makes, Offers, Returns, Takes, View};
@@ -48,7 +48,7 @@ impl<X: Splitter, N: Named<X::Task, X::Leaf>> Desk<X, N> {
     pub(crate) fn new(alloc: Global, room: u32) -> Result<Desk<X, N>, AllocError>
         requires { 1 ≤ room }
         ensures room { IfOk result (λ desk. desk.room ≡ room) }
-        ensures none { IfOk result (λ desk. (desk.made ≡ []) × (desk.taken ≡ []) × (desk.thieves ≡ 0) × (desk.hands ≡ 0)) }
+        ensures none { IfOk result IsUnused }
     {
         let worker = Worker::fifo_as(alloc, room as usize)?;
         Ok(Desk {
@@ -71,7 +71,8 @@ impl<X: Splitter, N: Named<X::Task, X::Leaf>> Desk<X, N> {
     /// Makes an offer, unless there is no room for one more.
     pub(crate) fn offer(&mut self, offer: Offer<X>) -> Result<(), Offer<X>>
         requires { IsTrueOffer N.offers offer }
-        ensures ok { OnOk result (self.new ≡ record self.old { made = self.old.made ++ offer ∷ [] }) }
+        ensures ok { OnOk result
+            (self.new ≡ record self.old { made = self.old.made ++ offer ∷ [] }) }
         ensures full { IfErr result (λ back. (back ≡ offer) × (self.new ≡ self.old)) }
         ensures room { IsErr result ↔ (self.old.room ≤ length self.old.made) }
     {
@@ -87,13 +88,16 @@ impl<X: Splitter, N: Named<X::Task, X::Leaf>> Desk<X, N> {
 
     /// Takes the oldest offer.
     pub(crate) fn recall(&mut self) -> Option<Offer<X>>
-        ensures some { IfSome result (λ offer. self.new ≡ record self.old { taken = self.old.taken ++ offer ∷ [] }) }
+        ensures some { IfSome result
+            (λ offer. self.new ≡ record self.old { taken = self.old.taken ++ offer ∷ [] }) }
         ensures offer { IfSome result (λ offer. IsTrueOffer N.offers offer) }
         ensures within { IfSome result (λ offer. length self.new.taken ≤ length self.new.made) }
         ensures none { IfNone result (self.new ≡ self.old) }
         ensures beside { IfNone result (EmptyBeside N.offers (pass_of_desk self.old)) }
-        ensures all { IfNone result (self.old.hands ≡ self.old.thieves → WeighTheSame self.old.taken self.old.made) }
-        ensures alone { IfNone result (self.old.thieves ≡ 0 → WeighTheSame self.old.taken self.old.made) }
+        ensures all { IfNone result (self.old.hands ≡ self.old.thieves
+            → WeighTheSame self.old.taken self.old.made) }
+        ensures alone { IfNone result (self.old.thieves ≡ 0
+            → WeighTheSame self.old.taken self.old.made) }
     {
         let Some(offer) = self.worker.pop_as::<Takes<X, N>>() else {
             return None;

@@ -5,6 +5,8 @@ mod desk;
 mod making;
 mod owner;
 mod rule;
+#[cfg(test)]
+mod tests;
 mod thief;
 
 pub use making::deck_new;

@@ -2,7 +2,7 @@ ghost use Rattle.std.specs.Prelude.{◌≡◌, ◌≤◌, ◌∷◌, [], ◌++�
 ghost use Rattle.std.specs.List.{AllByRecursion};
 ghost use Rattle.split_paths.specs.Key.{IsTrueOffer};
 ghost use Rattle.tally_laws.specs.Weights.{WeighTheSame};
-ghost use Rattle.offer_deck.specs.Views.{EmptyBeside, closed, pass_of_owner};
+ghost use Rattle.offer_deck.specs.Views.{EmptyBeside, pass_of_owner, sole_of};
 
 use crate::desk::Desk;
 use crate::thief::Thief;
@@ -36,7 +36,8 @@ impl<X: Splitter, N: Named<X::Task, X::Leaf>> Owner<X, N> {
     /// Makes an offer. It comes back where there is no room, and takes no memory.
     pub fn offer(&mut self, offer: Offer<X>) -> Result<(), Offer<X>>
         requires { IsTrueOffer N.offers offer }
-        ensures ok { OnOk result (self.new ≡ record self.old { made = self.old.made ++ offer ∷ [] }) }
+        ensures ok { OnOk result
+            (self.new ≡ record self.old { made = self.old.made ++ offer ∷ [] }) }
         ensures full { IfErr result (λ back. (back ≡ offer) × (self.new ≡ self.old)) }
         ensures room { IsErr result ↔ (self.old.room ≤ length self.old.made) }
     {
@@ -63,7 +64,7 @@ impl<X: Splitter, N: Named<X::Task, X::Leaf>> Owner<X, N> {
     pub fn close(self, thieves: Vec<Thief<X, N>>) -> Sole<X, N>
         requires deck { AllByRecursion (λ thief. thief.deck ≡ self.deck) thieves.items }
         requires all { length thieves.items ≡ self.thieves }
-        ensures { result ≡ closed self thieves.items }
+        ensures { result ≡ sole_of self thieves.items }
     {
         let Owner { mut desk } = self;
         for thief in thieves {

@@ -21,14 +21,14 @@ pub struct Law<X: Splitter, N: Named<X::Task, X::Leaf>> {
 impl<X: Splitter, N: Named<X::Task, X::Leaf>> Protocol<Offer<X>, View<Offer<X>>> for Law<X, N> {
     ghost use Rattle.std.specs.Prelude.{[]};
     ghost use Rattle.split_paths.specs.Key.{IsTrueOffer};
-    ghost use Rattle.offer_deck.specs.Passes.{owner_pass, spent_pass};
+    ghost use Rattle.offer_deck.specs.Passes.{owner_pass, idle_pass};
     ghost use Rattle.offer_deck.specs.Rule.{KeepsDeck};
 
     ghost holds = { KeepsDeck (IsTrueOffer N.offers) };
 
     ghost first = { owner_pass [] 0 0 [] };
 
-    ghost guest = { spent_pass };
+    ghost guest = { idle_pass };
 }
 
 /// A thief is made.
@@ -47,11 +47,11 @@ impl<A> Split<View<A>> for Makes {
 pub struct Returns;
 
 impl<A> Join<View<A>> for Returns {
-    ghost use Rattle.offer_deck.specs.Passes.{with_thief_back, spent_pass};
+    ghost use Rattle.offer_deck.specs.Passes.{with_thief_back, idle_pass};
 
     ghost both = { with_thief_back };
 
-    ghost spent = { spent_pass };
+    ghost spent = { idle_pass };
 }
 
 /// The owner makes an offer.

@@ -46,7 +46,8 @@ impl<X: Splitter, N: Named<X::Task, X::Leaf>> Model for Thief<X, N> {
 impl<X: Splitter, N: Named<X::Task, X::Leaf>> Thief<X, N> {
     /// Takes the oldest offer. It tries again while another thread is in the way.
     pub fn steal<R: Wait>(&mut self, rt: &R) -> Steal<X>
-        ensures got { IfGot result (λ offer. self.new ≡ record self.old { taken = self.old.taken ++ offer ∷ [] }) }
+        ensures got { IfGot result
+            (λ offer. self.new ≡ record self.old { taken = self.old.taken ++ offer ∷ [] }) }
         ensures offer { IfGot result (λ offer. IsTrueOffer N.offers offer) }
         ensures empty { IfEmpty result (self.new ≡ self.old) }
         ensures beside { IfEmpty result (EmptyBeside N.offers (pass_of_thief self.old)) }
