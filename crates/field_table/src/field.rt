@@ -1,4 +1,5 @@
-ghost use Rattle.std.specs.Prelude.{◌≡◌, ℕ, ◌+◌, ◌-◌, ◌*◌, ◌%◌, ◌<◌, ◌≤◌, ◌↔◌, IsOk, IfOk, IfErr, Contains};
+ghost use Rattle.std.specs.Prelude.{◌≡◌, ℕ, ◌+◌, ◌-◌, ◌*◌, ◌/◌, ◌%◌, ◌^◌, ◌<◌, ◌≤◌, ◌↔◌, IsOk, IfOk, IfErr, Contains};
+ghost use Rattle.std.proofs.Common.{ap, sym};
 ghost use Rattle.polynomials.specs.Primes.{IsPrime, field_primes, inverse_of};
 
 use std::marker::Model;
@@ -18,16 +19,23 @@ pub struct NotInTable {
 #[derive(Clone, Copy, Debug, PartialEq, Eq)]
 pub struct Field {
     prime: u32,
+    /// `SCALE` divided by the prime.
+    reciprocal: u64,
 }
+
+/// A product of two residues, times a reciprocal, has 64 bits.
+const SCALE: u64 = 0x4000_0000_0000;
 
 impl Model for Field {
     ghost Value = { ℕ };
 
     ghost view = { λ f. f.prime };
 
-    ghost invariant = { λ f. Contains field_primes f.prime };
+    ghost invariant = { λ f. Contains field_primes f.prime × (f.reciprocal ≡ 2 ^ 46 / f.prime) };
 
-    ghost inverse = { λ p. record { prime = p } };
+    ghost inverse = { λ p. record { prime = p; reciprocal = 2 ^ 46 / p } };
+
+    ghost inverse_ok = { λ f holds. ap (λ r. record { prime = f.prime; reciprocal = r }) (sym holds.1) };
 }
 
 impl Field {
@@ -38,7 +46,10 @@ impl Field {
         ensures err { IfErr result (λ refused. refused.asked ≡ p) }
     {
         if PRIMES.contains(&p) {
-            Ok(Field { prime: p as u32 })
+            Ok(Field {
+                prime: p as u32,
+                reciprocal: SCALE / p,
+            })
         } else {
             Err(NotInTable { asked: p })
         }
@@ -53,6 +64,16 @@ impl Field {
         ensures most { self ≤ 65537 }
     {
         self.prime
+    }
+
+    /// Does nothing: its clauses tell what every field's prime is, where no number is wanted.
+    pub fn facts(self)
+        ensures offered { Contains field_primes self }
+        ensures prime { IsPrime self }
+        ensures least { 1 < self }
+        ensures most { self ≤ 65537 }
+    {
+        let _ = self.prime();
     }
 
     pub fn add(self, a: u32, b: u32) -> u32
@@ -93,7 +114,13 @@ impl Field {
         ensures product { result ≡ a * b % self }
         ensures residue { result < self }
     {
-        product_modulo(a, b, self.prime)
+        self.facts();
+        let p = self.prime;
+        let product = a as u64 * b as u64;
+        // The quotient, or one less: multiplications take less time than a division.
+        let quotient = (product * self.reciprocal) >> 46;
+        let rest = (product - quotient * p as u64) as u32;
+        if rest < p { rest } else { rest - p }
     }
 
     /// The inverse of `a`.

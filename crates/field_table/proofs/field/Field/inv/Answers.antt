@@ -9,12 +9,12 @@ pub loop-rest-preserved : goal.loop-rest-preserved
 loop-rest-preserved c =
     rw c.product_modulo-product.ensures
     (next_step c.self.inside.prime c.args.a c.loop-rest.rest c.loop-rest.product
-    (IsPrime-field_primes c.self.inside.prime c.self.invariant) c.loop-rest-test.true c.loop-rest.invariant)
+    (IsPrime-field_primes c.self.inside.prime c.self.invariant.0) c.loop-rest-test.true c.loop-rest.invariant)
 
 pub returns-clause-inverse : goal.returns-clause-inverse
 returns-clause-inverse c =
     rw (← c.self.view_is)
     (inverse_of_unique c.self.inside.prime c.args.a c.loop-rest.product
-    (IsPrime-field_primes c.self.inside.prime c.self.invariant)
+    (IsPrime-field_primes c.self.inside.prime c.self.invariant.0)
     c.requires.nonzero (rw c.self.view_is c.requires.below) c.loop-rest.invariant.product_below
     (c.loop-rest.invariant.multiple ∙ omega (arith, c.loop-rest.invariant.positive)))

@@ -12,7 +12,7 @@ in_table c =
     (found.0, found.1, eqb-true _ _ (found.2 c.args.p))
 
 pub invariant_of-result : goal.invariant_of-result
-invariant_of-result c = in_table c
+invariant_of-result c = (in_table c, refl)
 
 pub returns-then-contains-clause-offered : goal.returns-then-contains-clause-offered
 returns-then-contains-clause-offered c = (λ _. in_table c, λ _. refl)

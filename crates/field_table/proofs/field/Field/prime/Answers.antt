@@ -3,4 +3,4 @@ use Rattle.polynomials.proofs.PrimeLemmas.{IsPrime-field_primes}
 use Rattle.field_table.proofs.field.Field.prime.Goals as goal
 
 pub returns-clause-prime : goal.returns-clause-prime
-returns-clause-prime c = IsPrime-field_primes c.args.self (rw (← c.self.view_is) c.self.invariant)
+returns-clause-prime c = IsPrime-field_primes c.args.self (rw (← c.self.view_is) c.self.invariant.0)
