@@ -6,3 +6,4 @@ pub mod Moves
 pub mod Passes
 pub mod Noting
 pub mod Ends
+pub mod Samples

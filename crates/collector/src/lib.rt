@@ -5,6 +5,8 @@ mod advance;
 mod branch;
 mod collector;
 mod met;
+#[cfg(test)]
+mod tests;
 
 pub use advance::Advance;
 pub use collector::Collector;

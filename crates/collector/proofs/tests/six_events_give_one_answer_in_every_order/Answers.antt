@@ -1,0 +1,5 @@
+use Rattle.collector.proofs.Samples.{brush_key}
+use Rattle.collector.proofs.tests.six_events_give_one_answer_in_every_order.Goals as goal
+
+pub walk_brush-requires-clause-key : goal.walk_brush-requires-clause-key
+walk_brush-requires-clause-key g c lifetimes = brush_key _
