@@ -1,5 +1,5 @@
 -- Where no variable above v occurs, the terms with the greatest power of v come first.
-use Rattle.std.proofs.Common.{◌≡◌, ◌≢◌, ◌<◌, ◌≤◌, ◌+◌, ℕ, zero, suc, Bool, true, false, cond, eqb, Option, Some, None, List, [], ◌∷◌, ◌++◌, take, drop, length, get_or, set, refl, ap, sym, ◌∙◌, append-nil, inl, inr, arith}
+use Rattle.std.proofs.Common.{◌≡◌, ◌≢◌, ◌<◌, ◌≤◌, ◌+◌, ◌-◌, ℕ, zero, suc, Bool, true, false, cond, eqb, Option, Some, None, List, [], ◌∷◌, ◌++◌, take, drop, length, get_or, set, refl, ap, sym, ◌∙◌, append-nil, inl, inr, arith}
 use Rattle.std.proofs.lemmas.Bool.{cases_order}
 use Rattle.std.proofs.lemmas.List.{take-append-drop}
 use Rattle.polynomials.specs.Monomials.{exponent_of}
@@ -10,7 +10,7 @@ use Rattle.polynomials.proofs.Degrees.{coefficient_in_above}
 use Rattle.polynomials.proofs.InitialLemmas.{first_exponent}
 use Rattle.polynomials.proofs.MainVariables.{degree_in_main_var, free_above_main_var, free_without_main_var}
 use Rattle.sparse_poly.proofs.Passes.{pass_end}
-use Rattle.sparse_poly.proofs.Places.{drop_item, IsPolynomial-item}
+use Rattle.sparse_poly.proofs.Places.{drop_item, take_rest, IsPolynomial-item}
 
 -- no variable above v occurs
 abbrev pub IsFreeAbove : ℕ → Polynomial → Type 0
@@ -85,3 +85,8 @@ module _ (v d k i : ℕ) (f g out : List Term) (same : g ≡ f) (top : d ≡ deg
   tail_found h =
       ap (λ l. l ++ drop k g) (pass_end (without_power v d) refl out (take k g) _ i end h)
       ∙ (ap (λ l. without_power v d (take k l) ++ drop k l) same ∙ (without_power-part v d k f none ∙ ap (λ e. without_power v e f) top))
+
+  -- and with the rest it is the tail
+  pub tail_made : (h made : List Term) → h ≡ f → out ++ without_power v d (drop i (take k g)) ≡ without_power v d (take k g) → made ≡ out ++ take (length h - k) (drop k h) → made ≡ tail_in v f
+  tail_made h made again turns is =
+      is ∙ (ap (λ l. out ++ l) (take_rest h k ∙ ap (drop k) (again ∙ sym same)) ∙ tail_found turns)

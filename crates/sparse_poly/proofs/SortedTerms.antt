@@ -1,5 +1,5 @@
 -- Sorting terms doesn't change what they are collected to, and puts them in falling order.
-use Rattle.std.proofs.Common.{◌≡◌, ◌<◌, ◌+◌, ℕ, Bool, false, suc, List, [], ◌∷◌, length, get_or, refl, ap, sym, ◌∙◌, subst, inl, inr, arith}
+use Rattle.std.proofs.Common.{◌≡◌, ◌<◌, ◌+◌, ℕ, Bool, false, zero, suc, List, [], ◌∷◌, length, get_or, refl, ap, sym, ◌∙◌, subst, inl, inr, arith}
 use Rattle.std.specs.Prelude.{IsPermutation, IsSortedBy, All, Result, Ok, Err, IfOk}
 use Rattle.std.specs.Ordering.{is_lt, ordering_reverse}
 use Rattle.std.specs.Cmp.{IsStrictWeakOrder}
@@ -9,7 +9,7 @@ use Rattle.std.proofs.lemmas.List.Sorted.{ranks_by, IsStrictWeakOrder-flip, sort
 use Rattle.polynomials.specs.Monomials.{Monomial, monomial_order}
 use Rattle.polynomials.specs.MonomialOrders.{monomial_order_total, monomial_order-reverse, monomial_order_same}
 use Rattle.polynomials.specs.Polynomials.{Term, collected}
-use Rattle.polynomials.proofs.Monomialwise.{HaveLength}
+use Rattle.polynomials.proofs.Monomialwise.{EachMonomial, HaveLength}
 use Rattle.polynomials.proofs.Canonical.{IsPolynomial-collected}
 use Rattle.polynomials.proofs.SamePolynomials.{same_from_sums, SameSums-trans, SameSums-sym, SameSums-collected}
 use Rattle.polynomials.proofs.SameSumsLemmas.{SameSums-permutation}
@@ -67,6 +67,19 @@ AreResidues-from_All p (t ∷ ts) h = (h 0 t (omega arith), AreResidues-from_All
 -- and in another order too
 pub AreResidues-permutation : (p : ℕ) (ts us : List Term) → IsPermutation ts us → All (λ t. t.1 < p) ts → AreResidues p us
 AreResidues-permutation p ts us permuted h = AreResidues-from_All p us (All-permutation (λ t. t.1 < p) ts us permuted h)
+
+-- what holds of each monomial holds of them in another order
+All-from_EachMonomial : (P : Monomial → Type 0) (ts : List Term) → EachMonomial P ts → All (λ (t : Term). P t.0) ts
+All-from_EachMonomial P [] h k d below = absurd (omega arith)
+All-from_EachMonomial P (t ∷ ts) h zero d below = h.0
+All-from_EachMonomial P (t ∷ ts) h (suc k) d below = All-from_EachMonomial P ts h.1 k d (omega arith)
+
+EachMonomial-from_All : (P : Monomial → Type 0) (ts : List Term) → All (λ (t : Term). P t.0) ts → EachMonomial P ts
+EachMonomial-from_All P [] h = tt
+EachMonomial-from_All P (t ∷ ts) h = (h 0 t (omega arith), EachMonomial-from_All P ts (λ k d below. h (suc k) d (omega arith)))
+
+pub EachMonomial-permutation : (P : Monomial → Type 0) (ts us : List Term) → IsPermutation ts us → EachMonomial P ts → EachMonomial P us
+EachMonomial-permutation P ts us permuted h = EachMonomial-from_All P us (All-permutation (λ (t : Term). P t.0) ts us permuted (All-from_EachMonomial P ts h))
 
 -- what follows from a result follows where there is one
 pub IfOk-implied : {X E : Type 0} (P Q : X → Type 0) (r : Result X E) → ((x : X) → P x → Q x) → IfOk r P → IfOk r Q

@@ -1,4 +1,5 @@
 pub mod Signs
+pub mod Exponents
 pub mod Pairs
 pub mod Falling
 pub mod Values

@@ -4,7 +4,7 @@ ghost use Rattle.polynomials.specs.Views.{degree_in};
 ghost use Rattle.polynomials.specs.Fits.{fits};
 ghost use Rattle.sparse_poly.specs.Values.{HasValueOfSum, HasValueOfDifference, HasValueOfProduct, HasZerosOf};
 
-use crate::fits::{fits, tell_exponents};
+use crate::fits::fits;
 use crate::merge::{Sign, merged};
 use crate::poly::Poly;
 use crate::product::{product, scaled, term_times};
@@ -51,8 +51,7 @@ impl Poly {
             return Ok(None);
         }
         let (alloc, f) = (self.alloc(), w.field);
-        // Tells that the modulus is positive.
-        let _ = f.prime();
+        f.facts();
         let terms = if self.term_count() <= other.term_count() {
             product(alloc, f, self.terms(), other.terms())?
         } else {
@@ -69,9 +68,7 @@ impl Poly {
         ensures product { IfOk result (λ r. r ≡ product_of f (variable_power VARS v e) self.now) }
         ensures over { IfOk result (IsPolynomial f VARS) }
     {
-        // Tells that 1 is a residue.
-        let _ = f.prime();
-        tell_exponents(self.terms());
+        f.facts();
         let terms = term_times(self.alloc(), f, (Mono::power(v, e), 1), self.terms())?;
         Ok(Poly::over(f, terms))
     }
@@ -86,8 +83,7 @@ impl Poly {
         let Some(first) = self.terms().first() else {
             return Ok(Poly::zero(self.alloc()));
         };
-        // Tells that the modulus is prime.
-        let _ = f.prime();
+        f.facts();
         let terms = scaled(self.alloc(), f, f.inv(first.1), self.terms())?;
         Ok(Poly::over(f, terms))
     }

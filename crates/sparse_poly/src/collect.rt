@@ -1,5 +1,6 @@
 ghost use Rattle.std.specs.Prelude.{◌≡◌, ◌<◌, All, IfOk};
 ghost use Rattle.polynomials.specs.Polynomials.{IsPolynomial, collected};
+ghost use Rattle.sparse_poly.specs.Exponents.{HasSmallExponents};
 ghost use Rattle.sparse_poly.specs.Falling.{AreResidues, HaveVariables, IsFalling};
 
 use field_table::Field;
@@ -15,23 +16,16 @@ pub fn collected(
     requires { All (λ t. t.1 < f) terms.now }
     ensures value { IfOk result (λ r. r.items ≡ collected f terms.now) }
     ensures over { IfOk result (λ r. IsPolynomial f VARS r.items) }
+    ensures small { IfOk result (λ r. HasSmallExponents r.items) }
 {
-    // Tells that the modulus is positive.
-    let _ = f.prime();
-    let mut sorted = Vec::from_slice(alloc, terms)?;
-    sorted.sort_unstable_by(|t, u| u.0.cmp(&t.0));
-    tell_variables(terms);
-    tell_variables(&sorted);
-    joined(alloc, f, &sorted)
-}
-
-/// Does nothing: its clause tells how many exponents the monomials have.
-fn tell_variables(terms: &[(Mono, u32)])
-    ensures { HaveVariables VARS terms.now }
-{
+    f.facts();
+    let mut sorted = Vec::with_capacity(alloc, terms.len())?;
     for t in terms {
         t.0.shape();
+        sorted.push(*t)?;
     }
+    sorted.sort_unstable_by(|t, u| u.0.cmp(&t.0));
+    joined(alloc, f, &sorted)
 }
 
 /// Terms in falling order with equal monomials added and zeros dropped.
@@ -41,8 +35,7 @@ fn joined(alloc: Global, f: Field, sorted: &[(Mono, u32)]) -> Result<Vec<(Mono, 
     requires falling { IsFalling sorted.now }
     ensures { IfOk result (λ r. r.items ≡ collected f sorted.now) }
 {
-    // Tells that the modulus is positive.
-    let _ = f.prime();
+    f.facts();
     let mut out = Vec::new(alloc);
     let Some((first, rest)) = sorted.split_first() else {
         return Ok(out);

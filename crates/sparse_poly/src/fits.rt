@@ -1,4 +1,4 @@
-ghost use Rattle.std.specs.Prelude.{◌≡◌, ◌≤◌, ◌↔◌, ℕ, true, IsTrue};
+ghost use Rattle.std.specs.Prelude.{◌≡◌, ◌↔◌, ℕ, true, IsTrue};
 ghost use Rattle.polynomials.specs.Monomials.{exponent_of};
 ghost use Rattle.polynomials.specs.Views.{degree_in};
 ghost use Rattle.polynomials.specs.Fits.{fits};
@@ -24,13 +24,4 @@ pub fn degrees(terms: &[(Mono, u32)]) -> Mono
         degrees = degrees.max_exponents(t.0);
     }
     degrees
-}
-
-/// Does nothing: its clause tells that exponents have 16 bits.
-pub fn tell_exponents(terms: &[(Mono, u32)])
-    ensures { (v : ℕ) → degree_in v terms.now ≤ 65535 }
-{
-    for t in terms {
-        t.0.shape();
-    }
 }

@@ -41,8 +41,7 @@ pub fn merged(
     ensures value { IfOk result (λ r. r.items ≡ sum_of f a.now (signed f sign b.now)) }
     ensures over { IfOk result (λ r. IsPolynomial f VARS r.items) }
 {
-    // Tells that the modulus is positive.
-    let _ = f.prime();
+    f.facts();
     let mut out = Vec::with_capacity(alloc, a.len().saturating_add(b.len()))?;
     let mut i = 0;
     let mut j = 0;

@@ -1,7 +1,10 @@
-ghost use Rattle.std.specs.Prelude.{◌≡◌, ◌<◌, ◌^◌, ◌↔◌, [], length, All, IfOk, IsTrue};
+ghost use Rattle.std.specs.Prelude.{◌≡◌, ◌<◌, ◌≤◌, ◌^◌, ◌↔◌, ℕ, [], length, All, IfOk, IsTrue};
 ghost use Rattle.std.specs.Cmp.{partial_equiv_from_equiv};
 ghost use Rattle.polynomials.specs.Equalities.{same_polynomial_equivalence};
+ghost use Rattle.polynomials.specs.Monomials.{most_exponent};
 ghost use Rattle.polynomials.specs.Polynomials.{Term, IsPolynomial, collected, constant_of, same_polynomial};
+ghost use Rattle.polynomials.specs.Views.{degree_in};
+ghost use Rattle.sparse_poly.specs.Exponents.{HasSmallExponents};
 
 use crate::collect::collected;
 use field_table::Field;
@@ -20,18 +23,20 @@ impl Model for Poly {
     ghost use Rattle.std.specs.Prelude.{◌^◌, List};
     ghost use Rattle.mono_words.specs.declared.mono.TheConstants.{VARS};
     ghost use Rattle.polynomials.specs.Polynomials.{Term, IsPolynomial};
+    ghost use Rattle.sparse_poly.specs.Exponents.{HasSmallExponents};
 
     ghost Value = { List Term };
 
     ghost view = { λ f. f.terms.items };
 
-    ghost invariant = { λ f. IsPolynomial (2 ^ 32) VARS f.terms.items };
+    ghost invariant = { λ f. IsPolynomial (2 ^ 32) VARS f.terms.items × HasSmallExponents f.terms.items };
 }
 
 impl Poly {
     /// The polynomial of terms in canonical form.
     pub(crate) fn of(terms: Vec<(Mono, u32)>) -> Poly
-        requires { IsPolynomial (2 ^ 32) VARS terms.items }
+        requires canonical { IsPolynomial (2 ^ 32) VARS terms.items }
+        requires small { HasSmallExponents terms.items }
         ensures { result ≡ terms.items }
     {
         Poly { terms }
@@ -39,11 +44,11 @@ impl Poly {
 
     /// The polynomial of terms in canonical form over a field.
     pub(crate) fn over(f: Field, terms: Vec<(Mono, u32)>) -> Poly
-        requires { IsPolynomial f VARS terms.items }
+        requires canonical { IsPolynomial f VARS terms.items }
+        requires small { HasSmallExponents terms.items }
         ensures { result ≡ terms.items }
     {
-        // Tells that coefficients fit their type.
-        let _ = f.prime();
+        f.facts();
         Poly { terms }
     }
 
@@ -87,6 +92,7 @@ impl Poly {
     pub fn terms(&self) -> &[(Mono, u32)]
         ensures terms { result.now ≡ self.now }
         ensures canonical { IsPolynomial (2 ^ 32) VARS self.now }
+        ensures exponents { (v : ℕ) → degree_in v self.now ≤ most_exponent }
     {
         &self.terms
     }

@@ -20,8 +20,7 @@ pub fn term_times(
     ensures value { IfOk result (λ r. r.items ≡ product_of f (t ∷ []) g.now) }
     ensures over { IfOk result (λ r. IsPolynomial f VARS r.items) }
 {
-    // Tells that the modulus is prime.
-    let _ = f.prime();
+    f.facts();
     let (monomial, c) = t;
     let mut out = Vec::with_capacity(alloc, g.len())?;
     for u in g {
@@ -43,8 +42,7 @@ pub fn scaled(
     ensures value { IfOk result (λ r. r.items ≡ scaled f c g.now) }
     ensures over { IfOk result (λ r. IsPolynomial f VARS r.items) }
 {
-    // Tells that the modulus is prime.
-    let _ = f.prime();
+    f.facts();
     let mut out = Vec::with_capacity(alloc, g.len())?;
     for u in g {
         out.push((u.0, f.mul(c, u.1)))?;
@@ -65,8 +63,7 @@ pub fn product(
     ensures value { IfOk result (λ r. r.items ≡ product_of f short.now long.now) }
     ensures over { IfOk result (λ r. IsPolynomial f VARS r.items) }
 {
-    // Tells that the modulus is prime.
-    let _ = f.prime();
+    f.facts();
     if short.is_empty() {
         return Ok(Vec::new(alloc));
     }

@@ -43,6 +43,6 @@ returns-clause-value t c =
     IfOk-implied _ _ c.merged.result
     (λ r e. e
     ∙ (ap₂ (sum_of c.args.f) (c.deref.ensures.value ∙ c.in_ok-left.ensures.value) (c.deref-2.ensures.value ∙ c.in_ok-right.ensures.value)
-    ∙ (sym (product_of-append c.args.f VARS c.prime.ensures.prime c.split_at.result.0.now c.split_at.result.1.now c.args.long.now (subst (IsPolynomial c.args.f VARS) c.split_at.ensures.by_index.0 c.requires.left) c.requires.right)
+    ∙ (sym (product_of-append c.args.f VARS c.facts.ensures.prime c.split_at.result.0.now c.split_at.result.1.now c.args.long.now (subst (IsPolynomial c.args.f VARS) c.split_at.ensures.by_index.0 c.requires.left) c.requires.right)
     ∙ ap (λ (l : List Term). product_of c.args.f l c.args.long.now) (sym c.split_at.ensures.by_index.0))))
     c.merged.ensures.value

@@ -14,4 +14,4 @@ pub returns-clause-over : goal.returns-clause-over
 returns-clause-over c =
     subst (IsPolynomial c.args.f VARS)
     (sym (pass_end (scaled c.args.f c.args.c) refl c.loop-u.out.items c.args.g.now _ c.loop-u.u-index c.loop-u-test.false c.loop-u.invariant))
-    (IsPolynomial-scaled c.args.f c.prime.ensures.prime VARS c.args.c c.requires.nonzero c.requires.below c.args.g.now c.requires.over)
+    (IsPolynomial-scaled c.args.f c.facts.ensures.prime VARS c.args.c c.requires.nonzero c.requires.below c.args.g.now c.requires.over)

@@ -19,9 +19,9 @@ mul-requires-clause-right c = (IsPolynomial-item c.args.f VARS c.loop-u.u-index 
 pub returns-clause-value : goal.returns-clause-value
 returns-clause-value c =
     pass_end (map (reduced_product c.args.f c.args.t)) refl c.loop-u.out.items c.args.g.now _ c.loop-u.u-index c.loop-u-test.false c.loop-u.invariant
-    ∙ sym (product_of-term c.args.f VARS c.prime.ensures.prime c.args.t c.args.g.now c.requires.term c.requires.over)
+    ∙ sym (product_of-term c.args.f VARS c.facts.ensures.prime c.args.t c.args.g.now c.requires.term c.requires.over)
 
 pub returns-clause-over : goal.returns-clause-over
 returns-clause-over c =
     subst (IsPolynomial c.args.f VARS) (sym (returns-clause-value c))
-    (IsPolynomial-product_of c.args.f VARS (positive_modulus c.prime.ensures.least) (c.args.t ∷ []) c.args.g.now c.requires.term c.requires.over)
+    (IsPolynomial-product_of c.args.f VARS (positive_modulus c.facts.ensures.least) (c.args.t ∷ []) c.args.g.now c.requires.term c.requires.over)

@@ -5,4 +5,7 @@ use Rattle.sparse_poly.proofs.Passes.{IsPolynomial-wider}
 use Rattle.sparse_poly.proofs.poly.Poly.over.Goals as goal
 
 pub invariant_of-result : goal.invariant_of-result
-invariant_of-result c = IsPolynomial-wider c.args.f (2 ^ 32) VARS c.args.terms.items (let most = c.prime.ensures.most in omega arith) c.requires
+invariant_of-result c = (
+  IsPolynomial-wider c.args.f (2 ^ 32) VARS c.args.terms.items (let most = c.facts.ensures.most in omega arith) c.requires.canonical,
+  c.requires.small,
+)
