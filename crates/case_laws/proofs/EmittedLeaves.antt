@@ -5,19 +5,19 @@ use Rattle.polynomials.specs.Polynomials.{Polynomial, IsPolynomial, ArePolynomia
 use Rattle.zero_sets.specs.Domains.{value_at}
 use Rattle.zero_sets.specs.Tasks.{Task}
 use Rattle.impose_rules.specs.Impose.{impose_children, step_to_fitting}
-use Rattle.impose_rules.specs.Leaves.{Leaf}
 use Rattle.impose_rules.proofs.ChainParts.{each_canonical}
 use Rattle.impose_rules.proofs.Lists.{each_implied}
 use Rattle.row_laws.proofs.ReductionValues.{reduced_to_zero_vanishes}
-use Rattle.case_rules.specs.Finish.{remainder_of, has_zero_remainder, first_remainder, step_by_remainder, step_by_nonzero}
+use Rattle.finish_rules.specs.Remainders.{remainder_of}
+use Rattle.case_rules.specs.Finish.{has_zero_remainder, first_remainder, step_by_remainder, step_by_nonzero}
 use Rattle.case_rules.specs.Cases.{step_by_queue}
 use Rattle.split_paths.specs.declared.splitter.Step.{Step}
 use Rattle.split_paths.specs.declared.splitter.Step.TheVariants.{Gone, Emit, TooWide, Kids}
 use Rattle.split_paths.specs.Lawful.{IsLawfulStep}
 use Rattle.tree_laws.specs.Points.{IfEmitted}
 use Rattle.case_laws.specs.Laws.{IsInZeroSet, IsSoundLeaf, EmittedLeavesAreSound}
-use Rattle.case_laws.proofs.Parts.{canonical_lawful}
-use Rattle.case_laws.proofs.Reductions.{remainder_is}
+use Rattle.finish_laws.proofs.Parts.{canonical_lawful}
+use Rattle.finish_laws.proofs.Reductions.{remainder_is}
 use Rattle.case_laws.proofs.FirstRemainders.{each_zero}
 
 -- nothing is emitted while there is something to impose

@@ -5,7 +5,8 @@ use Rattle.polynomials.specs.Polynomials.{Polynomial, is_zero}
 use Rattle.division_rules.proofs.ListLaws.{zero_by_test}
 use Rattle.division_rules.proofs.Steps.{choose}
 use Rattle.impose_laws.proofs.Options.{then_some}
-use Rattle.case_rules.specs.Finish.{remainder_of, has_zero_remainder, first_remainder}
+use Rattle.finish_rules.specs.Remainders.{remainder_of}
+use Rattle.case_rules.specs.Finish.{has_zero_remainder, first_remainder}
 
 module _ (p n w : ℕ) (chain : List Polynomial) where
   -- what holds where there is a remainder

@@ -1,5 +1,5 @@
 -- Monic forms of lawful polynomials, and lists that they are added to.
-use Rattle.std.proofs.Common.{◌≡◌, ℕ, zero, suc, List, [], ◌∷◌, ◌++◌, ◌∙◌, arith}
+use Rattle.std.proofs.Common.{◌≡◌, ℕ, List, [], ◌∷◌, ◌++◌, ◌∙◌, arith}
 use Rattle.polynomials.specs.Primes.{IsPrime}
 use Rattle.polynomials.specs.Polynomials.{Polynomial, monic, one_of}
 use Rattle.polynomials.specs.Views.{degree_in}
@@ -12,7 +12,7 @@ use Rattle.impose_rules.specs.Leads.{with_all_nonzero}
 use Rattle.impose_rules.proofs.Lists.{each_appended}
 use Rattle.impose_laws.proofs.MonicForms.{degree_in-monic}
 use Rattle.case_laws.specs.Lawful.{IsLawfulPolynomial, AreLawfulPolynomials}
-use Rattle.case_laws.proofs.Small.{monic_small}
+use Rattle.finish_laws.proofs.Small.{monic_small}
 
 -- no variable occurs in 1
 pub one_free : (n v : ℕ) → degree_in v (one_of n) ≡ 0

@@ -1,49 +1,20 @@
--- Lists of lawful polynomials by their parts.
-use Rattle.std.proofs.Common.{◌≡◌, ℕ, ◌≤◌, List, [], ◌∷◌}
-use Rattle.std.specs.List.{AllByRecursion}
-use Rattle.polynomials.specs.Polynomials.{Polynomial, IsPolynomial, ArePolynomials}
-use Rattle.polynomials.specs.Views.{degree_in, AreFreeOf}
+-- Lawful tasks by their parts.
+use Rattle.std.proofs.Common.{ℕ, ◌≤◌}
 use Rattle.zero_sets.specs.Tasks.{Task}
-use Rattle.impose_rules.proofs.ChainParts.{canonical_each}
-use Rattle.impose_rules.proofs.Lists.{each_implied}
 use Rattle.impose_laws.specs.TaskForms.{IsTaskOver, IsTaskFreeOf}
-use Rattle.case_laws.specs.Lawful.{IsLawfulPolynomial, AreLawfulPolynomials, IsLawfulTask}
+pub use Rattle.finish_laws.proofs.Parts.{canonical_lawful}
+use Rattle.finish_laws.proofs.Parts.{AreSmall, free_lawful}
+use Rattle.case_laws.specs.Lawful.{IsLawfulTask}
 
--- no degree of f is greater than 65,535
-abbrev pub IsSmall : Polynomial → Type 0
-IsSmall f = (v : ℕ) → degree_in v f ≤ 65535
-
--- nor one of any of fs
-abbrev pub AreSmall : List Polynomial → Type 0
-AreSmall fs = AllByRecursion IsSmall fs
-
--- nor one of any polynomial of a task
+-- no degree of any polynomial of a task is greater than 65,535
 abbrev pub IsSmallTask : Task → Type 0
 IsSmallTask task = AreSmall task.chain × AreSmall task.queue × AreSmall task.nonzero
 
-module _ (p n k : ℕ) where
-  -- lawful polynomials are canonical
-  pub canonical_lawful : (fs : List Polynomial) → AreLawfulPolynomials p n k fs → ArePolynomials p n fs
-  canonical_lawful fs lawful = canonical_each p n fs (each_implied (IsLawfulPolynomial p n k) (IsPolynomial p n) (λ f of_f. of_f.canonical) fs lawful)
+module _ (p n k : ℕ) (task : Task) (lawful : IsLawfulTask p n k task) where
+  -- a lawful task is one of canonical polynomials
+  pub task_over : IsTaskOver p n task
+  task_over = (canonical_lawful p n k task.chain lawful.chain.lawful, canonical_lawful p n k task.queue lawful.queue, canonical_lawful p n k task.nonzero lawful.nonzero)
 
   -- without the variables from k on
-  pub free_lawful : (v : ℕ) → k ≤ v → (fs : List Polynomial) → AreLawfulPolynomials p n k fs → AreFreeOf v fs
-  free_lawful v past fs lawful = each_implied (IsLawfulPolynomial p n k) (λ f. degree_in v f ≡ 0) (λ f of_f. of_f.named v past) fs lawful
-
-  -- with degrees that are small
-  pub small_lawful : (fs : List Polynomial) → AreLawfulPolynomials p n k fs → AreSmall fs
-  small_lawful fs lawful = each_implied (IsLawfulPolynomial p n k) IsSmall (λ f of_f. of_f.small) fs lawful
-
-  -- and what is all that is lawful
-  pub lawful_parts : (fs : List Polynomial) → ArePolynomials p n fs → ((v : ℕ) → k ≤ v → AreFreeOf v fs) → AreSmall fs → AreLawfulPolynomials p n k fs
-  lawful_parts [] canonical free small = tt
-  lawful_parts (f ∷ fs) canonical free small = (record { canonical = canonical.0; named = λ v past. (free v past).0; small = small.0 }, lawful_parts fs canonical.1 (λ v past. (free v past).1) small.1)
-
-  module _ (task : Task) (lawful : IsLawfulTask p n k task) where
-    -- so is a task of them
-    pub task_over : IsTaskOver p n task
-    task_over = (canonical_lawful task.chain lawful.chain.lawful, canonical_lawful task.queue lawful.queue, canonical_lawful task.nonzero lawful.nonzero)
-
-    -- without the variables from k on
-    pub task_free : (v : ℕ) → k ≤ v → IsTaskFreeOf v task
-    task_free v past = (free_lawful v past task.chain lawful.chain.lawful, free_lawful v past task.queue lawful.queue, free_lawful v past task.nonzero lawful.nonzero)
+  pub task_free : (v : ℕ) → k ≤ v → IsTaskFreeOf v task
+  task_free v past = (free_lawful p n k v past task.chain lawful.chain.lawful, free_lawful p n k v past task.queue lawful.queue, free_lawful p n k v past task.nonzero lawful.nonzero)

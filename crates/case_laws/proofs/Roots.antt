@@ -1,5 +1,5 @@
 -- The task that the tree of a system starts with.
-use Rattle.std.proofs.Common.{◌≡◌, ℕ, Bool, true, false, List, [], ◌∷◌, None, Contains, refl, sym, ap, ◌∙◌, inl, inr, subst}
+use Rattle.std.proofs.Common.{◌≡◌, ℕ, Bool, true, false, List, [], ◌∷◌, None, refl, ap, ◌∙◌, inl, inr}
 use Rattle.std.specs.List.{list_any}
 use Rattle.std.proofs.lemmas.Bool.{or_cases}
 use Rattle.std.proofs.lemmas.List.Folds.{list_any-from_Any}
@@ -9,17 +9,17 @@ use Rattle.polynomials.proofs.Canonical.{IsPolynomial-one_of}
 use Rattle.polynomials.proofs.MainVariables.{main_var_none}
 use Rattle.zero_sets.specs.Domains.{Tables, IsPointOver, value_at}
 use Rattle.zero_sets.specs.ZeroSets.{AreNonZero}
-use Rattle.zero_sets.specs.Systems.{PolynomialSystem, IsSolution}
+use Rattle.zero_sets.specs.Systems.{IsSolution}
 use Rattle.zero_sets.specs.Tasks.{InTask}
 use Rattle.division_rules.proofs.ListLaws.{zero_by_test}
 use Rattle.impose_rules.specs.Impose.{children_by_head, step_to_fitting}
 use Rattle.impose_laws.proofs.KnownNonzero.{with_all_points}
 use Rattle.impose_laws.proofs.MonicForms.{degree_in-monic}
 use Rattle.case_rules.specs.Cases.{case_step, root_by_zero}
-use Rattle.case_laws.specs.Lawful.{IsLawfulSystem, IsLawfulTask}
+use Rattle.case_laws.specs.Lawful.{IsLawfulTask}
 use Rattle.case_laws.specs.Laws.{RootsStartWell, ZeroLeavesNothing}
 use Rattle.case_laws.proofs.LawfulNonzero.{one_free, one_lawful, with_all_nonzero_lawful}
-use Rattle.case_laws.proofs.Parts.{canonical_lawful}
+use Rattle.finish_laws.proofs.Parts.{canonical_lawful}
 
 -- 0 is no polynomial that isn't zero at a point
 zero_vanishes : (r : Tables) (xs : List ℕ) (fs : List Polynomial) → list_any is_zero fs ≡ true → AreNonZero r xs fs → ⊥

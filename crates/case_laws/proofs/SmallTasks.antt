@@ -18,10 +18,11 @@ use Rattle.impose_rules.specs.Impose.{reduced_head, child_without, child_extende
 use Rattle.impose_rules.specs.Leads.{with_all_nonzero, lead_cases}
 use Rattle.impose_rules.proofs.ChainParts.{each_with_member}
 use Rattle.impose_rules.proofs.Lists.{each_appended}
-use Rattle.case_laws.proofs.Parts.{IsSmall, AreSmall, IsSmallTask}
-use Rattle.case_laws.proofs.Results.{then_follows}
-use Rattle.case_laws.proofs.Small.{zero_small, monic_small, lead_small, tail_small, stripped_small}
-use Rattle.case_laws.proofs.SmallRows.{IsSmallRow, AreSmallRows, reduction_small, rows_small, leads_small, last_small}
+use Rattle.finish_laws.proofs.Parts.{IsSmall, AreSmall}
+use Rattle.case_laws.proofs.Parts.{IsSmallTask}
+use Rattle.finish_laws.proofs.Results.{then_follows}
+use Rattle.finish_laws.proofs.Small.{zero_small, monic_small, lead_small, tail_small, stripped_small}
+use Rattle.finish_laws.proofs.SmallRows.{IsSmallRow, AreSmallRows, reduction_small, rows_small, leads_small, last_small}
 
 -- small tasks
 abbrev pub AreSmallTasks : List Task → Type 0

@@ -1,15 +1,10 @@
 -- The step of a lawful task is lawful.
-use Rattle.std.proofs.Common.{◌≡◌, ℕ, ◌≤◌, max, Bool, true, false, List, [], ◌∷◌, length, Option, Some, None, IfSome, refl, sym, subst, arith}
+use Rattle.std.proofs.Common.{◌≡◌, ℕ, ◌≤◌, max, Bool, true, false, List, [], ◌∷◌, length, Option, Some, None, IfSome, refl, subst, arith}
 use Rattle.std.specs.List.{AllByRecursion}
 use Rattle.polynomials.specs.Primes.{IsPrime}
 use Rattle.polynomials.specs.Polynomials.{Polynomial}
 use Rattle.zero_sets.specs.Systems.{PolynomialSystem}
 use Rattle.zero_sets.specs.Tasks.{Task}
-use Rattle.division_rules.specs.Lists.{list_operations}
-use Rattle.division_rules.specs.Rows.{plain, plains}
-use Rattle.division_rules.specs.Within.{reduction_within}
-use Rattle.division_rules.proofs.CanonicalRows.{IsPolynomialRow-reduction}
-use Rattle.division_rules.proofs.Up.{plains_canonical}
 use Rattle.split_paths.specs.declared.splitter.Step.{Step}
 use Rattle.split_paths.specs.declared.splitter.Step.TheVariants.{Gone, Emit, TooWide, Kids}
 use Rattle.split_paths.specs.Lawful.{IsLawfulStep}
@@ -19,57 +14,41 @@ use Rattle.impose_rules.proofs.Lists.{each_implied}
 use Rattle.impose_laws.specs.TaskForms.{KeepsForm}
 use Rattle.impose_laws.proofs.FewChildren.{children_are_few}
 use Rattle.impose_laws.proofs.KeptForms.{children_keep_the_form}
-use Rattle.row_laws.proofs.DegreeLaws.{reductions_keep_degrees}
 use Rattle.case_rules.specs.Finish.{has_zero_remainder, first_remainder, step_by_remainder, step_by_nonzero}
 use Rattle.case_rules.specs.Cases.{step_by_queue, case_step}
-use Rattle.case_laws.specs.Lawful.{IsLawfulPolynomial, IsLawfulSystem, IsLawfulChain, IsLawfulLeaf, IsLawfulTask}
+use Rattle.finish_laws.proofs.LawfulRemainders.{remainder_lawful}
+use Rattle.case_laws.specs.Lawful.{IsLawfulPolynomial, IsLawfulSystem, IsLawfulLeaf, IsLawfulTask}
 use Rattle.case_laws.specs.Laws.{CaseStepsKeepLaw}
 use Rattle.case_laws.proofs.FirstRemainders.{IfRemainder, first_found}
-use Rattle.case_laws.proofs.Parts.{IsSmall, AreSmall, canonical_lawful, small_lawful, lawful_parts, task_over, task_free, free_lawful}
-use Rattle.case_laws.proofs.Reductions.{remainder_is}
-use Rattle.case_laws.proofs.Results.{then_follows}
-use Rattle.case_laws.proofs.SmallRows.{IsSmallRow, reduction_small}
+use Rattle.finish_laws.proofs.Parts.{AreSmall, small_lawful, lawful_parts}
+use Rattle.case_laws.proofs.Parts.{task_over, task_free}
 use Rattle.case_laws.proofs.SmallTasks.{AreSmallTasks, children_small}
 
-module _ (p n k w : ℕ) (prime : IsPrime p) where
-  -- the remainder of a lawful polynomial by a lawful triangular set
-  pub remainder_lawful : (chain : List Polynomial) → IsLawfulChain p n k chain → (f : Polynomial) → IsLawfulPolynomial p n k f → IfRemainder p n w chain (IsLawfulPolynomial p n k) f
-  remainder_lawful chain lawful f of_f r made =
-      let are = canonical_lawful p n k chain lawful.lawful in
-      subst (IsLawfulPolynomial p n k) (sym (remainder_is p n w chain f r made)) (record {
-        canonical = (IsPolynomialRow-reduction p n prime.many (plains chain) (plain f) (plains_canonical p n chain are) (of_f.canonical, tt)).0;
-        named = λ v past.
-            let falls = reductions_keep_degrees p n v chain f prime are of_f.canonical lawful.triangular (free_lawful p n k v past chain lawful.lawful) in
-            let none = of_f.named v past in
-            omega arith;
-        small = subst IsSmall (remainder_is p n w chain f r made) (subst (λ o. IfSome o IsSmall) made (then_follows IsSmallRow IsSmall (reduction_within (list_operations p n) w (plains chain) (plain f)) (λ g. Some g.first) (reduction_small p n w (plains chain) (plain f) (of_f.small, tt)) (λ g small. small.0)));
-      })
+module _ (p n k w : ℕ) (prime : IsPrime p) (task : Task) (lawful : IsLawfulTask p n k task) where
+  -- children that keep the form of the task and are small are lawful
+  kept_lawful : (children : List Task) → AllByRecursion (KeepsForm p n task) children → AreSmallTasks children → AllByRecursion (IsLawfulTask p n k) children
+  kept_lawful [] kept small = tt
+  kept_lawful (child ∷ children) kept small = (
+    record {
+      chain = record { lawful = lawful_parts p n k child.chain kept.0.over.0 (λ v past. (kept.0.free v (task_free p n k task lawful v past)).0) small.0.0; triangular = kept.0.triangular };
+      queue = lawful_parts p n k child.queue kept.0.over.1 (λ v past. (kept.0.free v (task_free p n k task lawful v past)).1) small.0.1;
+      nonzero = lawful_parts p n k child.nonzero kept.0.over.2 (λ v past. (kept.0.free v (task_free p n k task lawful v past)).2) small.0.2;
+    },
+    kept_lawful children kept.1 small.1,
+  )
 
-  module _ (task : Task) (lawful : IsLawfulTask p n k task) where
-    -- children that keep the form of the task and are small are lawful
-    kept_lawful : (children : List Task) → AllByRecursion (KeepsForm p n task) children → AreSmallTasks children → AllByRecursion (IsLawfulTask p n k) children
-    kept_lawful [] kept small = tt
-    kept_lawful (child ∷ children) kept small = (
-      record {
-        chain = record { lawful = lawful_parts p n k child.chain kept.0.over.0 (λ v past. (kept.0.free v (task_free p n k task lawful v past)).0) small.0.0; triangular = kept.0.triangular };
-        queue = lawful_parts p n k child.queue kept.0.over.1 (λ v past. (kept.0.free v (task_free p n k task lawful v past)).1) small.0.1;
-        nonzero = lawful_parts p n k child.nonzero kept.0.over.2 (λ v past. (kept.0.free v (task_free p n k task lawful v past)).2) small.0.2;
-      },
-      kept_lawful children kept.1 small.1,
-    )
+  -- and they are fewer than 2 ^ 32
+  few_lawful : {L : Type 0} (lawful_leaf : L → Type 0) (children : Option (List Task)) → IfSome children (AllByRecursion (KeepsForm p n task)) → IfSome children AreSmallTasks → IfSome children (λ kids. length kids ≤ max 2 65535) → IsLawfulStep (IsLawfulTask p n k) lawful_leaf (step_to_fitting children)
+  few_lawful lawful_leaf None kept small few = tt
+  few_lawful lawful_leaf (Some []) kept small few = tt
+  few_lawful lawful_leaf (Some (kid ∷ kids)) kept small few = (omega arith, omega arith, kept_lawful (kid ∷ kids) kept small)
 
-    -- and they are fewer than 2 ^ 32
-    few_lawful : {L : Type 0} (lawful_leaf : L → Type 0) (children : Option (List Task)) → IfSome children (AllByRecursion (KeepsForm p n task)) → IfSome children AreSmallTasks → IfSome children (λ kids. length kids ≤ max 2 65535) → IsLawfulStep (IsLawfulTask p n k) lawful_leaf (step_to_fitting children)
-    few_lawful lawful_leaf None kept small few = tt
-    few_lawful lawful_leaf (Some []) kept small few = tt
-    few_lawful lawful_leaf (Some (kid ∷ kids)) kept small few = (omega arith, omega arith, kept_lawful (kid ∷ kids) kept small)
-
-    -- the step that imposes the first of the queue is lawful, whatever leaves the others emit
-    pub imposed_lawful : {L : Type 0} (lawful_leaf : L → Type 0) (f : Polynomial) (rest : List Polynomial) → task.queue ≡ f ∷ rest → IsLawfulStep (IsLawfulTask p n k) lawful_leaf (impose_step p n w task.chain f rest task.nonzero)
-    imposed_lawful lawful_leaf f rest starts =
-        let small = subst AreSmall starts (small_lawful p n k task.queue lawful.queue) in
-        let over = task_over p n k task lawful in
-        few_lawful lawful_leaf (impose_children p n w task.chain rest task.nonzero f) (children_keep_the_form p n w task f rest prime over lawful.chain.triangular starts) (children_small p n w task.chain rest task.nonzero (small_lawful p n k task.chain lawful.chain.lawful) small.1 (small_lawful p n k task.nonzero lawful.nonzero) f small.0) (children_are_few p n w 65535 task f rest prime over lawful.chain.triangular starts (small_lawful p n k task.chain lawful.chain.lawful))
+  -- the step that imposes the first of the queue is lawful, whatever leaves the others emit
+  pub imposed_lawful : {L : Type 0} (lawful_leaf : L → Type 0) (f : Polynomial) (rest : List Polynomial) → task.queue ≡ f ∷ rest → IsLawfulStep (IsLawfulTask p n k) lawful_leaf (impose_step p n w task.chain f rest task.nonzero)
+  imposed_lawful lawful_leaf f rest starts =
+      let small = subst AreSmall starts (small_lawful p n k task.queue lawful.queue) in
+      let over = task_over p n k task lawful in
+      few_lawful lawful_leaf (impose_children p n w task.chain rest task.nonzero f) (children_keep_the_form p n w task f rest prime over lawful.chain.triangular starts) (children_small p n w task.chain rest task.nonzero (small_lawful p n k task.chain lawful.chain.lawful) small.1 (small_lawful p n k task.nonzero lawful.nonzero) f small.0) (children_are_few p n w 65535 task f rest prime over lawful.chain.triangular starts (small_lawful p n k task.chain lawful.chain.lawful))
 
 -- the law of steps
 pub case_steps_keep_law : CaseStepsKeepLaw
@@ -84,7 +63,7 @@ case_steps_keep_law n k w system lawful task of_task = by_queue task.queue refl
       (
         record {
           chain = of_task.chain;
-          queue = (first_found system.prime n w task.chain (IsLawfulPolynomial system.prime n k) system.inputs (each_implied (IsLawfulPolynomial system.prime n k) (IfRemainder system.prime n w task.chain (IsLawfulPolynomial system.prime n k)) (remainder_lawful system.prime n k w lawful.prime task.chain of_task.chain) system.inputs lawful.inputs) r e, tt);
+          queue = (first_found system.prime n w task.chain (IsLawfulPolynomial system.prime n k) system.inputs (each_implied (IsLawfulPolynomial system.prime n k) (IfRemainder system.prime n w task.chain (IsLawfulPolynomial system.prime n k)) (λ f of_f r made. remainder_lawful system.prime n k w lawful.prime task.chain of_task.chain f r of_f made) system.inputs lawful.inputs) r e, tt);
           nonzero = of_task.nonzero;
         },
         tt,

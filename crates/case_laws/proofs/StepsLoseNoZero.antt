@@ -7,17 +7,19 @@ use Rattle.zero_sets.specs.Domains.{Tables, IsPointOver, value_at}
 use Rattle.zero_sets.specs.ZeroSets.{InZeroSet, AreNonZero, InQuasiComponent}
 use Rattle.zero_sets.specs.Tasks.{Task, InTask}
 use Rattle.impose_rules.specs.Impose.{impose_children, step_to_fitting}
-use Rattle.impose_rules.specs.Leaves.{Leaf, InLeaf}
+use Rattle.impose_rules.specs.Leaves.{InLeaf}
 use Rattle.impose_laws.specs.TaskForms.{InSomeTask}
 use Rattle.impose_laws.proofs.Cover.{children_cover_the_task}
 use Rattle.row_laws.proofs.ReductionValues.{reductions_keep_zeros, reduced_to_zero_vanishes}
-use Rattle.case_rules.specs.Finish.{remainder_of, has_zero_remainder, first_remainder, step_by_remainder, step_by_nonzero}
+use Rattle.finish_rules.specs.Remainders.{remainder_of}
+use Rattle.case_rules.specs.Finish.{has_zero_remainder, first_remainder, step_by_remainder, step_by_nonzero}
 use Rattle.case_rules.specs.Cases.{step_by_queue}
 use Rattle.tree_laws.specs.Points.{SomeOf, IsKeptBy}
 use Rattle.tree_laws.proofs.Some.{some_first, some_right}
 use Rattle.case_laws.specs.Laws.{CaseStepsLoseNoZero}
-use Rattle.case_laws.proofs.Parts.{canonical_lawful, task_over}
-use Rattle.case_laws.proofs.Reductions.{remainder_is}
+use Rattle.finish_laws.proofs.Parts.{canonical_lawful}
+use Rattle.case_laws.proofs.Parts.{task_over}
+use Rattle.finish_laws.proofs.Reductions.{remainder_is}
 use Rattle.case_laws.proofs.FirstRemainders.{IfRemainder, first_found, zero_found}
 
 module _ (r : Tables) (xs : List ℕ) where

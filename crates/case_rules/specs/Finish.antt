@@ -3,31 +3,24 @@ use Rattle.std.specs.Prelude.{ℕ, Bool, true, false, List, [], ◌∷◌, Optio
 use Rattle.polynomials.specs.Polynomials.{Polynomial, is_zero}
 use Rattle.zero_sets.specs.Systems.{PolynomialSystem}
 use Rattle.zero_sets.specs.Tasks.{Task}
-use Rattle.division_rules.specs.Rows.{plain, plains}
-use Rattle.division_rules.specs.Within.{and_then, reduction_within}
-use Rattle.division_rules.specs.Lists.{list_operations}
+use Rattle.division_rules.specs.Within.{and_then}
 use Rattle.split_paths.specs.declared.splitter.Step.{Step}
 use Rattle.split_paths.specs.declared.splitter.Step.TheVariants.{Gone, Emit, TooWide, Kids}
 use Rattle.impose_rules.specs.Leaves.{Leaf, leaf_of}
+use Rattle.finish_rules.specs.Remainders.{remainder_of}
 
 -- in n variables modulo p, with products within the width w, by a triangular set
 module _ (p n w : ℕ) (chain : List Polynomial) where
-  -- f reduced by the chain; None where a product doesn't fit
-  abbrev pub remainder_of : Polynomial → Option Polynomial
-  remainder_of f =
-      and_then (reduction_within (list_operations p n) w (plains chain) (plain f))
-      (λ g. Some g.first)
-
   -- whether one of fs reduces to 0; those after the first that does aren't reduced
   abbrev pub has_zero_remainder : List Polynomial → Option Bool
   has_zero_remainder [] = Some false
-  has_zero_remainder (f ∷ fs) = and_then (remainder_of f)
+  has_zero_remainder (f ∷ fs) = and_then (remainder_of p n w chain f)
       (λ r. elim (is_zero r) [ true ↦ Some true | false ↦ has_zero_remainder fs ])
 
   -- the first remainder of fs that isn't 0, if there is one; those after it aren't reduced
   abbrev pub first_remainder : List Polynomial → Option (Option Polynomial)
   first_remainder [] = Some None
-  first_remainder (f ∷ fs) = and_then (remainder_of f)
+  first_remainder (f ∷ fs) = and_then (remainder_of p n w chain f)
       (λ r. elim (is_zero r) [ true ↦ first_remainder fs | false ↦ Some (Some r) ])
 
   -- the chain is emitted where all inputs reduce to 0; a remainder that isn't 0 is imposed

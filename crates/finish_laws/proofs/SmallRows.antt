@@ -15,9 +15,9 @@ use Rattle.division_rules.specs.Within.{and_then, times_within, cross_within, cr
 use Rattle.division_rules.specs.Quotients.{quotient_within}
 use Rattle.division_rules.proofs.Steps.{choose}
 use Rattle.impose_laws.proofs.Options.{then_holds}
-use Rattle.case_laws.proofs.Parts.{IsSmall, AreSmall}
-use Rattle.case_laws.proofs.Results.{then_follows}
-use Rattle.case_laws.proofs.Small.{sum_small, negative_small, lead_small, product_small, quotient_small}
+use Rattle.finish_laws.proofs.Parts.{IsSmall, AreSmall}
+use Rattle.finish_laws.proofs.Results.{then_follows}
+use Rattle.finish_laws.proofs.Small.{sum_small, negative_small, lead_small, product_small, quotient_small}
 
 -- a row whose entries are small
 abbrev pub IsSmallRow : Row Polynomial → Type 0

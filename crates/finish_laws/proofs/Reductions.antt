@@ -7,7 +7,7 @@ use Rattle.division_rules.specs.Within.{reduction_within}
 use Rattle.division_rules.proofs.WithinLimits.{gives-reduction}
 use Rattle.row_laws.specs.Words.{reduction_of}
 use Rattle.impose_laws.proofs.Options.{then_some}
-use Rattle.case_rules.specs.Finish.{remainder_of}
+use Rattle.finish_rules.specs.Remainders.{remainder_of}
 
 module _ (p n w : ℕ) (chain : List Polynomial) (f r : Polynomial) (made : remainder_of p n w chain f ≡ Some r) where
   -- where it fits, it is that without a limit

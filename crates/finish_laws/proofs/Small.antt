@@ -11,7 +11,7 @@ use Rattle.division_rules.specs.Quotients.{quotient_within, without_factor, fact
 use Rattle.division_rules.proofs.Quotients.{quotient_within_fits, quotient_within_divisor}
 use Rattle.division_rules.proofs.Steps.{choose}
 use Rattle.impose_rules.specs.Factors.{stripped}
-use Rattle.case_laws.proofs.Parts.{IsSmall}
+use Rattle.finish_laws.proofs.Parts.{IsSmall}
 
 -- 0 has the degree 0
 pub zero_small : IsSmall []

@@ -1,0 +1,5 @@
+pub mod Remainders
+pub mod Identities
+pub mod Turns
+pub mod Initials
+pub mod Checks
