@@ -2,7 +2,7 @@ ghost use Rattle.std.specs.Prelude.{◌≡◌, ℕ, ◌+◌, ◌<◌, ◌≤◌,
 ghost use Rattle.std.specs.Cmp.{partial_equiv_from_equiv, partial_order_from_agreeing_total};
 ghost use Rattle.std.specs.Ordering.{as_partial_cmp};
 ghost use Rattle.std.proofs.Common.{refl};
-ghost use Rattle.polynomials.specs.Monomials.{exponent_of, monomial_order, same_monomial, monomial_product, MonomialDivides, ExponentsFit, greatest_variable};
+ghost use Rattle.polynomials.specs.Monomials.{exponent_of, most_exponent, monomial_order, same_monomial, monomial_product, MonomialDivides, ExponentsFit, greatest_variable};
 ghost use Rattle.polynomials.specs.MonomialOrders.{monomial_order_total};
 ghost use Rattle.polynomials.specs.Equalities.{same_monomial_equivalence};
 ghost use Rattle.polynomials.specs.Fits.{greater_exponents, is_exponent_list};
@@ -75,7 +75,7 @@ impl Mono {
     /// Does nothing: its clauses tell what every monomial is.
     pub fn shape(self)
         ensures variables { length self ≡ VARS }
-        ensures exponents { (v : ℕ) → exponent_of v self ≤ 65535 }
+        ensures exponents { (v : ℕ) → exponent_of v self ≤ most_exponent }
         ensures within { IsTrue (is_exponent_list self) }
     {
         let _ = &self.first;

@@ -1,7 +1,7 @@
 ghost use Rattle.std.specs.Prelude.{◌≡◌, ◌+◌, ◌<◌, ◌≤◌, ℕ, ◌↔◌, List, [], false, IfOk, IfSome, IsNone};
 ghost use Rattle.polynomials.specs.Polynomials.{IsPolynomial, sum_of, difference_of, product_of, monic, variable_power};
 ghost use Rattle.polynomials.specs.Views.{degree_in};
-ghost use Rattle.polynomials.specs.Fits.{fits};
+ghost use Rattle.polynomials.specs.Fits.{most_exponent, fits};
 ghost use Rattle.sparse_poly.specs.Values.{HasValueOfSum, HasValueOfDifference, HasValueOfProduct, HasZerosOf};
 
 use crate::fits::fits;
@@ -64,7 +64,7 @@ impl Poly {
     pub fn times_power(&self, f: Field, v: usize, e: u16) -> Result<Poly, AllocError>
         requires variable { v < VARS }
         requires over { IsPolynomial f VARS self.now }
-        requires room { e + degree_in v self.now ≤ 65535 }
+        requires room { e + degree_in v self.now ≤ most_exponent }
         ensures product { IfOk result (λ r. r ≡ product_of f (variable_power VARS v e) self.now) }
         ensures over { IfOk result (IsPolynomial f VARS) }
     {

@@ -97,6 +97,14 @@ impl Poly {
         &self.terms
     }
 
+    /// Does nothing: its clauses tell what every polynomial is.
+    pub fn facts(&self)
+        ensures canonical { IsPolynomial (2 ^ 32) VARS self.now }
+        ensures exponents { (v : ℕ) → degree_in v self.now ≤ most_exponent }
+    {
+        let _ = self.terms();
+    }
+
     /// Whether this is 0, which has no terms.
     pub fn is_zero(&self) -> bool
         ensures { IsTrue result ↔ (self.now ≡ []) }
