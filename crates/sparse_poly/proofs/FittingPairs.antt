@@ -1,5 +1,6 @@
 -- Pairs of terms that fit, by places and by parts.
 use Rattle.std.proofs.Common.{◌≡◌, ◌↔◌, ◌<◌, ◌≤◌, ◌+◌, ◌*◌, ℕ, true, zero, suc, List, [], ◌∷◌, ◌++◌, length, get_or, subst, sym, ap, inl, inr, arith}
+use Rattle.std.proofs.Math.Nat.{mul_comm}
 use Rattle.polynomials.specs.Monomials.{Monomial, exponent_of, ExponentsFit}
 use Rattle.polynomials.specs.Polynomials.{Term}
 use Rattle.polynomials.specs.Views.{degree_in}
@@ -12,6 +13,23 @@ pub FitsEach-item : (m : Monomial) (g : List Term) (k : ℕ) (u : Term) → Fits
 FitsEach-item m [] k u h below at = absurd (omega arith)
 FitsEach-item m (t ∷ g) zero u h below at = subst (λ (x : Term). ExponentsFit m x.0) (sym at) h.0
 FitsEach-item m (t ∷ g) (suc k) u h below at = FitsEach-item m g k u h.1 (omega arith) at
+
+-- the items at two places fit
+pub PairsFit-items : (f g : List Term) (i j : ℕ) (t u : Term) → PairsFit f g → i < length f → t ≡ get_or f i t → j < length g → u ≡ get_or g j u → ExponentsFit t.0 u.0
+PairsFit-items [] g i j t u h below at column there = absurd (omega arith)
+PairsFit-items (s ∷ f) g zero j t u h below at column there =
+    subst (λ (x : Term). ExponentsFit x.0 u.0) (sym at) (FitsEach-item s.0 g j u h.0 column there)
+PairsFit-items (s ∷ f) g (suc i) j t u h below at column there = PairsFit-items f g i j t u h.1 (omega arith) at column there
+
+-- where the product fits, there are as few pairs
+pub fitting_pairs_are_few : (w : ℕ) (f g : List Term) → fits w f g ≡ true → length f * length g ≤ w
+fitting_pairs_are_few w f g h = elim ((fits_in_each_variable w f g).0 h) [
+  | inl none ↦ let zero = ap length none in rw none (omega arith)
+  | inr other ↦ elim other [
+    | inl none ↦ rw none (omega (arith, mul_comm (length f) 0))
+    | inr both ↦ both.0
+  ]
+]
 
 -- the first part of the first factor
 pub PairsFit-append_left : (f g k : List Term) → PairsFit (f ++ g) k → PairsFit f k

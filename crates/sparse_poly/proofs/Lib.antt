@@ -14,3 +14,8 @@ pub mod FirstItems
 pub mod SmallExponents
 mod PowerMonomials
 pub mod Leads
+pub mod BoxPlaces
+pub mod Slots
+pub mod BoxTurns
+pub mod BoxRows
+pub mod BoxSums

@@ -2,6 +2,7 @@
 #![tactic(auto)]
 
 mod arithmetic;
+mod boxes;
 mod collect;
 mod fits;
 mod merge;

@@ -1,11 +1,15 @@
-ghost use Rattle.std.specs.Prelude.{◌≡◌, ◌<◌, [], ◌∷◌, IfOk};
+ghost use Rattle.std.specs.Prelude.{◌≡◌, ◌<◌, ◌*◌, ◌^◌, [], ◌∷◌, length, IfOk};
 ghost use Rattle.polynomials.specs.Polynomials.{IsPolynomial, product_of, scaled};
 ghost use Rattle.sparse_poly.specs.Pairs.{FitsEach, PairsFit};
 
+use crate::boxes::{product_in_box, sides_of_product};
 use crate::merge::{Sign, merged};
 use field_table::Field;
 use mono_words::{Mono, VARS};
 use std::alloc::{AllocError, Global};
+
+/// The most places of a box, which takes 16 bytes for each.
+const MOST_PLACES: usize = 1 << 24;
 
 /// A term times a polynomial, whose order stays.
 pub fn term_times(
@@ -50,8 +54,35 @@ pub fn scaled(
     Ok(out)
 }
 
-/// The product, by a balanced tree of merges of the terms of `short` times `long`.
+/// The product: by a sum for each monomial of a box where few places of it are left empty, else by
+/// merges.
 pub fn product(
+    alloc: Global,
+    f: Field,
+    short: &[(Mono, u32)],
+    long: &[(Mono, u32)],
+) -> Result<Vec<(Mono, u32)>, AllocError>
+    requires left { IsPolynomial f VARS short.now }
+    requires right { IsPolynomial f VARS long.now }
+    requires fit { PairsFit short.now long.now }
+    requires pairs { length short.now * length long.now < 2 ^ 32 }
+    ensures value { IfOk result (λ r. r.items ≡ product_of f short.now long.now) }
+    ensures over { IfOk result (λ r. IsPolynomial f VARS r.items) }
+{
+    // One term leaves nothing to add.
+    if short.len() > 1 && long.len() > 1 {
+        let most = 2 * short.len() * long.len();
+        if most <= MOST_PLACES {
+            if let Some((sides, size)) = sides_of_product(alloc, short, long, most)? {
+                return product_in_box(alloc, f, &sides, size, short, long);
+            }
+        }
+    }
+    merged_product(alloc, f, short, long)
+}
+
+/// The product, by a balanced tree of merges of the terms of `short` times `long`.
+fn merged_product(
     alloc: Global,
     f: Field,
     short: &[(Mono, u32)],
@@ -71,7 +102,7 @@ pub fn product(
         return term_times(alloc, f, short[0], long);
     }
     let (left, right) = short.split_at(short.len() / 2);
-    let left = product(alloc, f, left, long)?;
-    let right = product(alloc, f, right, long)?;
+    let left = merged_product(alloc, f, left, long)?;
+    let right = merged_product(alloc, f, right, long)?;
     merged(alloc, f, &left, Sign::Plus, &right)
 }

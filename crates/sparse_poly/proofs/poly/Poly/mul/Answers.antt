@@ -1,11 +1,12 @@
 -- What fits is multiplied, the shorter factor giving the parts.
-use Rattle.std.proofs.Common.{◌≡◌, ◌∙◌, ap₂, sym, refl, subst}
+use Rattle.std.proofs.Common.{◌≡◌, ◌∙◌, ap₂, sym, refl, subst, length, arith}
+use Rattle.std.proofs.Math.Nat.{mul_comm}
 use Rattle.mono_words.specs.declared.mono.TheConstants.{VARS}
 use Rattle.polynomials.specs.Polynomials.{product_of}
 use Rattle.polynomials.proofs.FitsLemmas.{fits_comm}
 use Rattle.polynomials.proofs.PolynomialLaws.{product_of_comm}
 use Rattle.sparse_poly.proofs.Moduli.{positive_modulus}
-use Rattle.sparse_poly.proofs.FittingPairs.{PairsFit-from_fits}
+use Rattle.sparse_poly.proofs.FittingPairs.{PairsFit-from_fits, fitting_pairs_are_few}
 use Rattle.sparse_poly.proofs.ValueClauses.{has_value_of_product}
 use Rattle.sparse_poly.specs.Exponents.{HasSmallExponents}
 use Rattle.sparse_poly.proofs.SmallExponents.{small_product}
@@ -21,6 +22,17 @@ pub product-requires-else-term_count-clause-fit : goal.product-requires-else-ter
 product-requires-else-term_count-clause-fit c =
     rw (c.terms-else-term_count.ensures.terms, c.terms-else-term_count-2.ensures.terms, ← c.terms.ensures.terms, ← c.terms-2.ensures.terms)
     (PairsFit-from_fits c.args.w.width c.terms-2.result.now c.terms.result.now (fits_comm c.args.w.width c.terms.result.now c.terms-2.result.now (c.if-not-fits.ensures.0 refl)))
+
+pub product-requires-clause-pairs : goal.product-requires-clause-pairs
+product-requires-clause-pairs c =
+    rw (c.terms-then-term_count.ensures.terms, c.terms-then-term_count-2.ensures.terms, ← c.terms.ensures.terms, ← c.terms-2.ensures.terms)
+    (let few = fitting_pairs_are_few c.args.w.width c.terms.result.now c.terms-2.result.now (c.if-not-fits.ensures.0 refl) in omega arith)
+
+pub product-requires-else-term_count-clause-pairs : goal.product-requires-else-term_count-clause-pairs
+product-requires-else-term_count-clause-pairs c =
+    rw (c.terms-else-term_count.ensures.terms, c.terms-else-term_count-2.ensures.terms, ← c.terms.ensures.terms, ← c.terms-2.ensures.terms)
+    (let few = fitting_pairs_are_few c.args.w.width c.terms.result.now c.terms-2.result.now (c.if-not-fits.ensures.0 refl) in
+    omega (arith, mul_comm (length c.terms.result.now) (length c.terms-2.result.now)))
 
 -- the product of both
 made : (c : Joined-term_count) → c.if-term_count.terms.items ≡ product_of c.args.w.field c.args.self.now c.args.other.now

@@ -6,7 +6,7 @@ use Rattle.sparse_poly.specs.Pairs.{PairsFit}
 use Rattle.sparse_poly.proofs.Products.{IsPolynomial-append_left, IsPolynomial-append_right, product_of-append}
 use Rattle.sparse_poly.proofs.FittingPairs.{PairsFit-append_left, PairsFit-append_right}
 use Rattle.sparse_poly.proofs.SortedTerms.{IfOk-implied}
-use Rattle.sparse_poly.proofs.product.+product.Goals as goal
+use Rattle.sparse_poly.proofs.product.+merged_product.Goals as goal
 
 -- a part of at least one item of at least two is shorter
 shorter : (n : ℕ) (b : Bool) → b ≡ (n == 0) → b ≡ false → n ≢ 1 → (m : ℕ) → (m ≡ n / 2) ⊎ (m + n / 2 ≡ n) → {t : ℕ} → n ≡ t → m < t
@@ -14,8 +14,8 @@ shorter n b is tested one m half same =
     let some : n ≢ 0 = λ e. (let f = ap (λ k. k == 0) e in cc) in
     elim half [ inl e ↦ omega arith | inr e ↦ omega arith ]
 
-pub product-requires : goal.product-requires
-product-requires t c = (
+pub merged_product-requires : goal.merged_product-requires
+merged_product-requires t c = (
   shorter (length c.args.short.now) _ c.is_empty.ensures c.if-is_empty.false c.if-short-eq1.false _ (inl c.split_at.ensures.front_len) c.decreases,
   (
     IsPolynomial-append_left c.args.f VARS c.split_at.result.0.now c.split_at.result.1.now (subst (IsPolynomial c.args.f VARS) c.split_at.ensures.by_index.0 c.requires.left),
@@ -26,8 +26,8 @@ product-requires t c = (
   ),
 )
 
-pub product-requires-2 : goal.product-requires-2
-product-requires-2 t c = (
+pub merged_product-requires-2 : goal.merged_product-requires-2
+merged_product-requires-2 t c = (
   shorter (length c.args.short.now) _ c.is_empty.ensures c.if-is_empty.false c.if-short-eq1.false _ (inr c.split_at.ensures.back_len) c.decreases,
   (
     IsPolynomial-append_right c.args.f VARS c.split_at.result.0.now c.split_at.result.1.now (subst (IsPolynomial c.args.f VARS) c.split_at.ensures.by_index.0 c.requires.left),

@@ -1,0 +1,19 @@
+-- The monomial of each term is in the box.
+use Rattle.std.proofs.Common.{arith}
+use Rattle.sparse_poly.proofs.BoxPlaces.{place_within}
+use Rattle.sparse_poly.proofs.BoxTurns.{exponent_at_most}
+use Rattle.sparse_poly.proofs.boxes.places_of.Goals as goal
+
+pub place-requires-clause-inside : goal.place-requires-clause-inside
+place-requires-clause-inside c = λ v.
+    let most = exponent_at_most v c.loop-u.u-index c.args.terms.now c.u-item.result c.loop-u-test.true c.u-item.is in
+    let inside = c.requires.inside v in
+    omega arith
+
+pub overflow_cast-place : goal.overflow_cast-place
+overflow_cast-place c =
+    let within = place_within c.args.sides.now c.u-item.result.0 (λ v.
+    let most = exponent_at_most v c.loop-u.u-index c.args.terms.now c.u-item.result c.loop-u-test.true c.u-item.is in
+    let inside = c.requires.inside v in
+    omega arith) in
+    omega (arith, c.place.ensures, c.requires.size)

@@ -1,0 +1,13 @@
+-- The box of the variables below v.
+use Rattle.std.proofs.Common.{◌≡◌, ◌≤◌, ◌<◌, ◌+◌, ℕ, length, get_or}
+use Rattle.polynomials.specs.Views.{degree_in}
+use Rattle.sparse_poly.specs.Boxes.{box_size}
+use Rattle.sparse_poly.proofs.boxes.sides_of_product.Given as goal
+
+abbrev pub invariant-loop-v : goal.invariant-loop-v
+invariant-loop-v l = record {
+  variables : length l.sides.items ≡ l.v;
+  size : box_size l.sides.items ≡ l.size;
+  small : l.size ≤ l.most;
+  inside : (w : ℕ) → w < l.v → degree_in w l.short + degree_in w l.long < get_or l.sides.items w 1;
+}
