@@ -103,3 +103,12 @@ module _ {O S : Type 0} (program : Program O S) where
       read = λ reader no_read_fault memory. absurd (none reader.0 reader.1);
       ends = (0, lit≤ tt, e);
     }
+
+    -- a run that read nothing, for want of memory, leaves all
+    pub unread_leaves : (told : Option (List ℕ)) (status : S) → (status ≡ program.read_fault) ⊎ (status ≡ program.out_of_memory) → IfSome told (λ bytes. Leaves program words bytes told status)
+    unread_leaves None status e = tt
+    unread_leaves (Some bytes) status e = record {
+      unread = λ none. refl;
+      read = λ is_reader no_read_fault memory. absurd (elim e [ inl f ↦ no_read_fault f | inr f ↦ memory f ]);
+      ends = (0, lit≤ tt, refl);
+    }

@@ -94,7 +94,7 @@ fn prepared<S: Source>(alloc: Global, words: &[String], source: &mut S) -> Resul
     ensures fault_answered { S.faults source.new ≢ S.faults source.old
         → IsErrOf result Silence.ReadFault }
 {
-    match command_of(words, false) {
+    match command_of(alloc, words, false) {
         Ok(command) => read_ending(alloc, words, &command, source),
         Err(WordsFault::NotACommand) => usage(alloc),
         Err(WordsFault::Memory(_)) => Err(Silence::OutOfMemory),

@@ -3,7 +3,7 @@ use Rattle.std.proofs.Common.{◌≡◌, ℕ, suc, ◌<◌, List, [], ◌∷◌,
 use Rattle.std.specs.Prelude.{codes}
 use Rattle.std.proofs.Math.Seq.{get_or-append_seam}
 use Rattle.tri_io.specs.Commands.{Item, flag, single_word, Begins}
-use Rattle.tri_io.specs.Givens.{HasNoEquals}
+use Rattle.tri_io.specs.Texts.{HasNoEquals}
 
 -- a plain name has no part that is
 plain_tail : (b : ℕ) (bs : List ℕ) → HasNoEquals (b ∷ bs) → HasNoEquals bs

@@ -1,7 +1,15 @@
 mod Bytes
 mod Values
 mod Items
-mod PlainNames
-mod Rests
-mod RestSteps
+mod Parsers
+mod KnownNames
+mod Cuts
+mod States
+mod Turns
+mod Readings
+mod Outcomes
+mod Distinct
+mod Rules
+mod Matches
+mod Chosen
 pub mod KnownCommands

@@ -1,25 +1,29 @@
 -- The words of a command line: options with numbers, in any order, each at most once.
-use Rattle.std.specs.Prelude.{◌≡◌, ◌≢◌, ◌⊎◌, ℕ, ◌≤◌, Bool, true, false, cond, List, [], ◌∷◌, ◌++◌, get_or, codes}
+use Rattle.std.specs.Prelude.{◌≡◌, ◌≢◌, ◌⊎◌, ℕ, ◌≤◌, Bool, true, false, List, [], ◌∷◌, ◌++◌, map}
+use Rattle.std.specs.Prelude.{Option, Some, option_map, get_or, codes}
+use Rattle.std.specs.List.{AllByRecursion, Any, IsDistinct, find}
+use Rattle.std.specs.Option.{option_or}
 use Rattle.std.specs.Str.{bytes_eq}
 use Rattle.std.specs.Str.Parse.{IsNumeral, digits_value}
 
--- an option that may be given: its name, its greatest value (the least is 1), and its value where
--- it isn't given
+-- an option that may be given: its name, the least and the greatest number that it takes, and its
+-- number where it isn't given, if it has one then
 pub record Rule : Type 0 where
   pub name : List ℕ
+  pub least : ℕ
   pub most : ℕ
-  pub default : ℕ
+  pub default : Option ℕ
 
--- an option that is given: its name and the digits of its value
+-- an option that is given: its name and the digits of its number
 pub record Item : Type 0 where
   pub name : List ℕ
   pub value : List ℕ
 
--- the option alone in a word, its value in the next
+-- the option alone in a word, its number in the next
 abbrev pub flag : Item → List ℕ
 flag item = codes "--" ++ item.name
 
--- the option and its value in one word
+-- the option and its number in one word
 abbrev pub single_word : Item → List ℕ
 single_word item = codes "--" ++ (item.name ++ (codes "=" ++ item.value))
 
@@ -32,58 +36,55 @@ abbrev pub Falls : List (List ℕ) → List Item → Type 0
 Falls words [] = words ≡ []
 Falls words (item ∷ items) = (rest : List (List ℕ)) × Begins words item rest × Falls rest items
 
--- the digits are a number without a sign and without a leading zero, from 1 to the greatest
-pub record IsOptionValue (digits : List ℕ) (most : ℕ) : Type 0 where
+-- the digits are a number that the option takes, without a sign and not beginning with a zero
+pub record IsNumberOf (rule : Rule) (digits : List ℕ) : Type 0 where
   pub number : IsNumeral 10 digits
   pub unpadded : get_or digits 0 48 ≢ 48
-  pub some : 1 ≤ digits_value 10 digits
-  pub within : digits_value 10 digits ≤ most
+  pub least : rule.least ≤ digits_value 10 digits
+  pub most : digits_value 10 digits ≤ rule.most
 
--- the item is of this rule: it has the name, and a value that may be given
+-- the item is of this rule: it has the name, and a number that the option takes
 pub record IsOfRule (item : Item) (rule : Rule) : Type 0 where
   pub named : item.name ≡ rule.name
-  pub value : IsOptionValue item.value rule.most
+  pub value : IsNumberOf rule item.value
 
--- the item is of one of the rules
-abbrev pub IsOfSome : Item → List Rule → Type 0
-IsOfSome item [] = ⊥
-IsOfSome item (rule ∷ rules) = IsOfRule item rule ⊎ IsOfSome item rules
+-- the words are these items, each of one of the rules, and no two have one name
+pub record AreItems (rules : List Rule) (words : List (List ℕ)) (items : List Item) : Type 0 where
+  pub falls : Falls words items
+  pub known : AllByRecursion (λ item. Any (IsOfRule item) rules) items
+  pub once : IsDistinct bytes_eq (map (λ item. item.name) items)
 
--- one of the items has the name
-abbrev pub has_name : List Item → List ℕ → Bool
-has_name [] name = false
-has_name (item ∷ items) name = cond (bytes_eq item.name name) true (has_name items name)
+-- the number of the rule's option: that of the item with its name, or else its own
+abbrev pub value_of : Rule → List Item → Option ℕ
+value_of rule items =
+    option_or (option_map (λ item. digits_value 10 item.value)
+    (find (λ item. bytes_eq item.name rule.name) items)) rule.default
 
--- each item is of a rule, and no two have one name
-abbrev pub AreItems : List Rule → List Item → Type 0
-AreItems rules [] = Unit {0}
-AreItems rules (item ∷ items) =
-    IsOfSome item rules × (has_name items item.name ≡ false) × AreItems rules items
-
--- the value of the option of the rule: that of the first item with its name, or else its own
-abbrev pub value_of : Rule → List Item → ℕ
-value_of rule [] = rule.default
-value_of rule (item ∷ items) =
-    cond (bytes_eq item.name rule.name) (digits_value 10 item.value) (value_of rule items)
+-- the words are a command of these rules, whose options have these numbers, in the rules' order
+pub record HasNumbers (rules : List Rule) (words : List (List ℕ)) (numbers : List (Option ℕ))
+    : Type 0 where
+  pub items : List Item
+  pub lawful : AreItems rules words items
+  pub values : numbers ≡ map (λ rule. value_of rule items) rules
 
 -- how many workers, for the program that has several
 abbrev pub workers_rule : Rule
-workers_rule = record { name = codes "workers"; most = 16; default = 4 }
+workers_rule = record { name = codes "workers"; least = 1; most = 16; default = Some 4 }
 
 -- how many steps along each branch
 abbrev pub steps_rule : Rule
-steps_rule = record { name = codes "steps"; most = 1000000; default = 10000 }
+steps_rule = record { name = codes "steps"; least = 1; most = 1000000; default = Some 10000 }
 
 -- the width that products fit
 abbrev pub width_rule : Rule
-width_rule = record { name = codes "width"; most = 1000000; default = 100000 }
+width_rule = record { name = codes "width"; least = 1; most = 1000000; default = Some 100000 }
 
 -- the options of the program with workers or without
 abbrev pub rules_of : Bool → List Rule
 rules_of true = workers_rule ∷ steps_rule ∷ width_rule ∷ []
 rules_of false = steps_rule ∷ width_rule ∷ []
 
--- the values of a command line's options
+-- the numbers of a command line's options
 pub record Options : Type 0 where
   pub workers : ℕ
   pub steps : ℕ
@@ -93,11 +94,10 @@ pub record Options : Type 0 where
 pub record IsCommand (with_workers : Bool) (words : List (List ℕ)) (options : Options)
     : Type 0 where
   pub items : List Item
-  pub falls : Falls words items
-  pub lawful : AreItems (rules_of with_workers) items
-  pub workers : options.workers ≡ value_of workers_rule items
-  pub steps : options.steps ≡ value_of steps_rule items
-  pub width : options.width ≡ value_of width_rule items
+  pub lawful : AreItems (rules_of with_workers) words items
+  pub workers : Some options.workers ≡ value_of workers_rule items
+  pub steps : Some options.steps ≡ value_of steps_rule items
+  pub width : Some options.width ≡ value_of width_rule items
 
 -- no words are two commands
 abbrev pub CommandsAreKnown : Type 0

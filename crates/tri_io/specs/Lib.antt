@@ -2,4 +2,4 @@ pub mod Faults
 pub mod States
 pub mod Transfers
 pub mod Commands
-pub mod Givens
+pub mod Texts

@@ -1,5 +1,9 @@
 -- Words that are no command have the usage line, and nothing is read.
 use Rattle.std.proofs.Common.{map, string_bytes, ap, Err}
+use Rattle.report_text.specs.declared.status.Status.TheVariants.{ReadFault, OutOfMemory}
+use Rattle.run_rules.proofs.Inputs.{unread_leaves}
+use Rattle.tri_alone.specs.Solver.{alone}
+use Rattle.tri_alone.proofs.Statuses.{of_two}
 use Rattle.tri_alone.proofs.Usages.{usage_expected, usage_answered, usage_tells, usage_is, usage_leaves, usage_leaves_fault}
 use Rattle.tri_alone.proofs.run.prepared.Goals as goal
 
@@ -21,9 +25,6 @@ returns-in-Err-NotACommand-clause-leaves g c = usage_leaves (map string_bytes c.
 pub returns-in-Err-NotACommand-clause-leaves_fault : goal.returns-in-Err-NotACommand-clause-leaves_fault
 returns-in-Err-NotACommand-clause-leaves_fault g c = usage_leaves_fault (map string_bytes c.args.words.now) _ _ (c.in-Err-NotACommand.ensures.refused (ap Err c.in-Err-NotACommand.field-0-is))
 
--- words are read without memory
+-- without memory for the words nothing was read
 pub returns-in-Err-Memory-clause-leaves_fault : goal.returns-in-Err-Memory-clause-leaves_fault
-returns-in-Err-Memory-clause-leaves_fault g c =
-    let memory = c.in-Err-Memory.field-0-is in
-    let cause = c.in-Err-Memory.ensures.cause in
-    cc
+returns-in-Err-Memory-clause-leaves_fault g c status h = unread_leaves alone (map string_bytes c.args.words.now) _ status (of_two ReadFault OutOfMemory status h)
