@@ -31,5 +31,5 @@ answers_have_common_zeros n k w steps system lawful on r xs at nonzero = (
       let p = system.prime in
       let start = roots_start_well n k system lawful in
       answers_cover_the_root (case_step n w system) (IsLawfulTask p n k) (IsLawfulLeaf p n k) (InTask r xs) (InLeaf r xs) (case_steps_keep_law n k w system lawful) (λ task of_task inside. case_steps_lose_no_zero n k w system task r xs lawful of_task at zeros inside) (root_place n steps system) start.lawful (start.zeros r xs at (zeros, nonzero)) on,
-  λ found. answers_are_sound n k w steps system lawful found.0 found.1 r xs at found.2,
+  λ found. answers_are_sound n k w steps system lawful found.1 (found.0, found.2, found.3) r xs at found.4,
 )

@@ -35,7 +35,7 @@ lawful_emitted lawful_task lawful_leaf (Kids kids) lawful = tt
 
 -- where all inputs reduce to 0 by a triangular set, they vanish on its quasi-component
 pub inputs_vanish : (p n w : ℕ) → IsPrime p → (inputs chain : List Polynomial) → ArePolynomials p n inputs → ArePolynomials p n chain → first_remainder p n w chain inputs ≡ Some None → IsInZeroSet p inputs chain
-inputs_vanish p n w prime inputs chain are_inputs are none r xs at inside = each_zero p n w chain (λ f. value_at r xs f ≡ r.nil) inputs (each_implied (IsPolynomial p n) (λ f. remainder_of p n w chain f ≡ Some [] → value_at r xs f ≡ r.nil) (λ f i made. reduced_to_zero_vanishes p n r xs chain f prime at.domain at.point are i inside (sym (remainder_is p n w chain f [] made))) inputs (each_canonical p n inputs are_inputs)) none
+inputs_vanish p n w prime inputs chain are_inputs are none r xs at inside = each_zero p n w chain (λ f. value_at r xs f ≡ r.nil) inputs (each_implied (IsPolynomial p n) (λ f. remainder_of p n w chain f ≡ Some [] → value_at r xs f ≡ r.nil) (λ f i made. reduced_to_zero_vanishes p n r xs chain f prime at are i inside (sym (remainder_is p n w chain f [] made))) inputs (each_canonical p n inputs are_inputs)) none
 
 -- the law of what is emitted
 pub emitted_leaves_are_sound : EmittedLeavesAreSound

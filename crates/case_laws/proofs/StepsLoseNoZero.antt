@@ -1,6 +1,6 @@
 -- A step keeps each point of its task that is a common zero of the inputs.
-use Rattle.std.proofs.Common.{◌≡◌, ℕ, Bool, true, false, List, [], ◌∷◌, Option, Some, None, IfSome, refl, sym, ap, ◌∙◌, inl, inr}
-use Rattle.std.specs.List.{AllByRecursion}
+use Rattle.std.proofs.Common.{◌≡◌, ℕ, Bool, true, false, List, [], ◌∷◌, Option, Some, None, IfSome, refl, sym, ap, ◌∙◌}
+use Rattle.std.specs.List.{AllByRecursion, Any}
 use Rattle.polynomials.specs.Primes.{IsPrime}
 use Rattle.polynomials.specs.Polynomials.{Polynomial, ArePolynomials}
 use Rattle.zero_sets.specs.Domains.{Tables, IsPointOver, value_at}
@@ -8,14 +8,13 @@ use Rattle.zero_sets.specs.ZeroSets.{InZeroSet, AreNonZero, InQuasiComponent}
 use Rattle.zero_sets.specs.Tasks.{Task, InTask}
 use Rattle.impose_rules.specs.Impose.{impose_children, step_to_fitting}
 use Rattle.impose_rules.specs.Leaves.{InLeaf}
-use Rattle.impose_laws.specs.TaskForms.{InSomeTask}
 use Rattle.impose_laws.proofs.Cover.{children_cover_the_task}
 use Rattle.row_laws.proofs.ReductionValues.{reductions_keep_zeros, reduced_to_zero_vanishes}
 use Rattle.finish_rules.specs.Remainders.{remainder_of}
 use Rattle.case_rules.specs.Finish.{has_zero_remainder, first_remainder, step_by_remainder, step_by_nonzero}
 use Rattle.case_rules.specs.Cases.{step_by_queue}
-use Rattle.tree_laws.specs.Points.{SomeOf, IsKeptBy}
-use Rattle.tree_laws.proofs.Some.{some_first, some_right}
+use Rattle.tree_laws.specs.Points.{IsKeptBy}
+use Rattle.tree_laws.proofs.Some.{some_first, some_nowhere}
 use Rattle.case_laws.specs.Laws.{CaseStepsLoseNoZero}
 use Rattle.finish_laws.proofs.Parts.{canonical_lawful}
 use Rattle.case_laws.proofs.Parts.{task_over}
@@ -23,28 +22,22 @@ use Rattle.finish_laws.proofs.Reductions.{remainder_is}
 use Rattle.case_laws.proofs.FirstRemainders.{IfRemainder, first_found, zero_found}
 
 module _ (r : Tables) (xs : List ℕ) where
-  -- a point of some task of a list
-  pub some_task : (tasks : List Task) → InSomeTask r xs tasks → SomeOf (InTask r xs) tasks
-  some_task [] inside = absurd inside
-  some_task (task ∷ tasks) (inl here) = some_first (InTask r xs) task tasks here
-  some_task (task ∷ tasks) (inr later) = some_right (InTask r xs) (task ∷ []) tasks (some_task tasks later)
-
-  -- is kept by the step that gives way to these tasks
-  pub imposed_keeps : {L : Type 0} (in_leaf : L → Type 0) (kids : Option (List Task)) → IfSome kids (InSomeTask r xs) → IsKeptBy (InTask r xs) in_leaf (step_to_fitting kids)
+  -- a point of some task is kept by the step that gives way to these tasks
+  pub imposed_keeps : {L : Type 0} (in_leaf : L → Type 0) (kids : Option (List Task)) → IfSome kids (Any (InTask r xs)) → IsKeptBy (InTask r xs) in_leaf (step_to_fitting kids)
   imposed_keeps in_leaf None inside = tt
-  imposed_keeps in_leaf (Some []) inside = inside
-  imposed_keeps in_leaf (Some (kid ∷ kids)) inside = some_task (kid ∷ kids) inside
+  imposed_keeps in_leaf (Some []) inside = some_nowhere (InTask r xs) inside
+  imposed_keeps in_leaf (Some (kid ∷ kids)) inside = inside
 
 module _ (p n w : ℕ) (prime : IsPrime p) (r : Tables) (xs : List ℕ) (at : IsPointOver p r xs) (chain : List Polynomial) (are : ArePolynomials p n chain) (inside : InQuasiComponent r xs chain) where
   -- a remainder of an input is zero at the point
   pub remainders_zero : (fs : List Polynomial) → ArePolynomials p n fs → InZeroSet r xs fs → AllByRecursion (IfRemainder p n w chain (λ g. value_at r xs g ≡ r.nil)) fs
   remainders_zero [] are_fs zeros_fs = tt
-  remainders_zero (f ∷ fs) are_fs zeros_fs = ((λ g made. ap (value_at r xs) (remainder_is p n w chain f g made) ∙ reductions_keep_zeros p n r xs chain f prime at.domain at.point are are_fs.0 inside.0 zeros_fs.0), remainders_zero fs are_fs.1 zeros_fs.1)
+  remainders_zero (f ∷ fs) are_fs zeros_fs = ((λ g made. ap (value_at r xs) (remainder_is p n w chain f g made) ∙ reductions_keep_zeros p n r xs chain f prime at are are_fs.0 inside.0 zeros_fs.0), remainders_zero fs are_fs.1 zeros_fs.1)
 
   -- none of what isn't zero at the point reduces to 0
   pub nonzero_remain : (fs : List Polynomial) → ArePolynomials p n fs → AreNonZero r xs fs → AllByRecursion (λ f. remainder_of p n w chain f ≡ Some [] → ⊥) fs
   nonzero_remain [] are_fs nonzero_fs = tt
-  nonzero_remain (f ∷ fs) are_fs nonzero_fs = ((λ made. nonzero_fs.0 (reduced_to_zero_vanishes p n r xs chain f prime at.domain at.point are are_fs.0 inside (sym (remainder_is p n w chain f [] made)))), nonzero_remain fs are_fs.1 nonzero_fs.1)
+  nonzero_remain (f ∷ fs) are_fs nonzero_fs = ((λ made. nonzero_fs.0 (reduced_to_zero_vanishes p n r xs chain f prime at are are_fs.0 inside (sym (remainder_is p n w chain f [] made)))), nonzero_remain fs are_fs.1 nonzero_fs.1)
 
 -- the law of zeros
 pub case_steps_lose_no_zero : CaseStepsLoseNoZero

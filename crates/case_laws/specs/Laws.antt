@@ -1,5 +1,6 @@
 -- The laws of the solver's steps, and of the answer of its tree.
 use Rattle.std.specs.Prelude.{◌≡◌, ◌↔◌, ℕ, List, [], Contains, None}
+use Rattle.std.specs.List.{Any}
 use Rattle.polynomials.specs.Polynomials.{Polynomial}
 use Rattle.zero_sets.specs.Domains.{Tables, IsPointOver}
 use Rattle.zero_sets.specs.ZeroSets.{InZeroSet, AreNonZero, InQuasiComponent}
@@ -10,7 +11,7 @@ use Rattle.split_paths.specs.Answer.{Answer, answer_of}
 use Rattle.split_paths.specs.Tree.{events_of}
 use Rattle.impose_rules.specs.Leaves.{Leaf, chain_of, InLeaf}
 use Rattle.case_rules.specs.Cases.{case_step, root_task, root_place}
-use Rattle.tree_laws.specs.Points.{SomeOf, IsKeptBy, IfEmitted}
+use Rattle.tree_laws.specs.Points.{IsKeptBy, IfEmitted}
 use Rattle.tree_laws.specs.Laws.{KeepsLaw}
 use Rattle.case_laws.specs.Lawful.{IsLawfulSystem, IsLawfulLeaf, IsLawfulTask}
 
@@ -100,7 +101,7 @@ IsCompleteAnswer system answer =
     → IsPointOver system.prime r xs
     → AreNonZero r xs system.nonzero
     → InZeroSet r xs system.inputs
-    ↔ SomeOf (λ (leaf : List ℕ × Leaf). InLeaf r xs leaf.1) answer.chains
+    ↔ Any (λ (leaf : List ℕ × Leaf). InLeaf r xs leaf.1) answer.chains
 
 -- the answer to a lawful system, stopped or not, has lawful leaves
 abbrev pub AnswersAreLawful : Type 0

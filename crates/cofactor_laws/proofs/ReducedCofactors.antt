@@ -124,19 +124,19 @@ module _ (p n w v : ℕ) (t c : Polynomial) (chain : List Polynomial) (z : Row P
 
 -- the laws
 pub cofactor_lead_is_zero_by_leads : CofactorLeadIsZeroByLeads
-cofactor_lead_is_zero_by_leads p n w v r xs t c chain z ends domain point others lead_t null = lead_shows_lead p n ends.prime r domain xs point w v t c chain ends.canonical ends.start z ends.last others lead_t null
+cofactor_lead_is_zero_by_leads p n w v r xs t c chain z ends at others lead_t null = lead_shows_lead p n ends.prime r at.domain xs at.point w v t c chain ends.canonical ends.start z ends.last others lead_t null
 
 pub reduced_cofactor_shows_lead : ReducedCofactorShowsLead
-reduced_cofactor_shows_lead p n w v r xs t c chain more z ends stands domain point inside lead_t null = reduction_shows_lead p n ends.prime r domain xs point w v t c chain ends.canonical ends.start z ends.last inside.1 lead_t inside.0 (canonical_path p n _ _ reduces)
+reduced_cofactor_shows_lead p n w v r xs t c chain more z ends stands at inside lead_t null = reduction_shows_lead p n ends.prime r at.domain xs at.point w v t c chain ends.canonical ends.start z ends.last inside.1 lead_t inside.0 (canonical_path p n _ _ reduces)
   where
     y : Row (CanonicalPolynomial p n)
-    y = (zero_row_above p n ends.prime r domain xs point w v t c chain ends.canonical ends.start z ends.last).0
+    y = (zero_row_above p n ends.prime r at.domain xs at.point w v t c chain ends.canonical ends.start z ends.last).0
 
     b : CanonicalPolynomial p n
     b = first_cofactor (canonical_operations p n ends.prime.many) y
 
     is : b.0 ≡ first_cofactor (list_operations p n) z
-    is = terms-first_cofactor p n ends.prime.many y ∙ ap (first_cofactor (list_operations p n)) (zero_row_above p n ends.prime r domain xs point w v t c chain ends.canonical ends.start z ends.last).2
+    is = terms-first_cofactor p n ends.prime.many y ∙ ap (first_cofactor (list_operations p n)) (zero_row_above p n ends.prime r at.domain xs at.point w v t c chain ends.canonical ends.start z ends.last).2
 
     are : ArePolynomials p n (chain ++ t ∷ more)
     are = ArePolynomials-append p n chain (t ∷ more) ends.canonical.1.1 (ends.canonical.1.0, stands.canonical)

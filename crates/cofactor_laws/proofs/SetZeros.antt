@@ -76,9 +76,9 @@ first_canonical p n (c ∷ cs) h = h.0
 
 -- the law
 pub zero_rows_show_zeros : ZeroRowsShowZeros
-zero_rows_show_zeros p n w v r xs chain t c z ends domain point inside = record {
-  splits = split (zero_row_splits_zeros p n w v r xs t c (members_below v chain) z (ends_below p n w v chain t c z ends) domain point (at_t.zero, at_t.below.0));
-  lead = λ null. reduced_cofactor_shows_lead p n w v r xs t c (members_below v chain) (member p n w v chain t c z ends).more z (ends_below p n w v chain t c z ends) (stands p n w v chain t c z ends) domain point at_t.below at_t.lead (ap (λ fs. reduction_of p n fs a) (sym (member p n w v chain t c z ends).parts) ∙ null);
+zero_rows_show_zeros p n w v r xs chain t c z ends at inside = record {
+  splits = split (zero_row_splits_zeros p n w v r xs t c (members_below v chain) z (ends_below p n w v chain t c z ends) at (at_t.zero, at_t.below.0));
+  lead = λ null. reduced_cofactor_shows_lead p n w v r xs t c (members_below v chain) (member p n w v chain t c z ends).more z (ends_below p n w v chain t c z ends) (stands p n w v chain t c z ends) at at_t.below at_t.lead (ap (λ fs. reduction_of p n fs a) (sym (member p n w v chain t c z ends).parts) ∙ null);
 }
   where
     a : Polynomial
@@ -88,5 +88,5 @@ zero_rows_show_zeros p n w v r xs chain t c z ends domain point inside = record 
     at_t = points_at_members v r xs chain t ends.starts.triangular ends.starts.member inside
 
     split : (value_at r xs a ≡ r.nil) ⊎ (value_at r xs c ≡ r.nil) → (value_at r xs (reduction_of p n chain a) ≡ r.nil) ⊎ (value_at r xs c ≡ r.nil)
-    split (inl null) = inl (reductions_keep_zeros p n r xs chain a ends.starts.prime domain point ends.starts.canonical.1 (first_canonical p n z.cofactors (over p n w v chain t c z ends).canonical.1) inside.0 null)
+    split (inl null) = inl (reductions_keep_zeros p n r xs chain a ends.starts.prime at ends.starts.canonical.1 (first_canonical p n z.cofactors (over p n w v chain t c z ends).canonical.1) inside.0 null)
     split (inr null) = inr null

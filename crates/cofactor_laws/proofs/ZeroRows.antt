@@ -45,10 +45,10 @@ last_is_zero p n v g [] z falls = falls.1
 last_is_zero p n v g (h ∷ later) z falls = last_is_zero p n v h later z falls.2
 
 pub zero_row_splits_zeros : ZeroRowSplitsZeros
-zero_row_splits_zeros p n w v r xs t c chain z ends domain point zeros = split (E.integral (E.val a) (E.val (c, ends.canonical.0)) (first_product_zero (polynomial_setting p n ends.prime) E (c, ends.canonical.0) (up_all p n ends.prime.many (t ∷ chain) ends.canonical.1) y (up_combination p n ends.prime (c ∷ t ∷ chain) ends.canonical z over) (generators_zero p n ends.prime r domain xs point (t ∷ chain) ends.canonical.1 zeros) (canonical_path p n _ _ is_zero)))
+zero_row_splits_zeros p n w v r xs t c chain z ends at zeros = split (E.integral (E.val a) (E.val (c, ends.canonical.0)) (first_product_zero (polynomial_setting p n ends.prime) E (c, ends.canonical.0) (up_all p n ends.prime.many (t ∷ chain) ends.canonical.1) y (up_combination p n ends.prime (c ∷ t ∷ chain) ends.canonical z over) (generators_zero p n ends.prime r at.domain xs at.point (t ∷ chain) ends.canonical.1 zeros) (canonical_path p n _ _ is_zero)))
   where
     E : Evaluation (polynomial_setting p n ends.prime) (Element r)
-    E = table_evaluation p n ends.prime r domain xs point
+    E = table_evaluation p n ends.prime r at.domain xs at.point
 
     over : IsRowOver p n (c ∷ t ∷ chain) z
     over = subst (IfRow (IsRowOver p n (c ∷ t ∷ chain))) ends.last (rows_with_cofactors_are_combinations p n w v t c chain ends.prime ends.canonical ends.start).1
@@ -66,5 +66,5 @@ zero_row_splits_zeros p n w v r xs t c chain z ends domain point zeros = split (
     first_is = terms-first_cofactor p n ends.prime.many y ∙ ap (first_cofactor (list_operations p n)) (down-up p n ends.prime.many z over.canonical)
 
     split : IsZero (polynomial_setting p n ends.prime) E a ⊎ IsZero (polynomial_setting p n ends.prime) E (c, ends.canonical.0) → (value_at r xs (first_cofactor (list_operations p n) z) ≡ r.nil) ⊎ (value_at r xs c ≡ r.nil)
-    split (inl null) = inl (ap (value_at r xs) (sym first_is) ∙ zero_table p n ends.prime r domain xs point a null)
-    split (inr null) = inr (zero_table p n ends.prime r domain xs point (c, ends.canonical.0) null)
+    split (inl null) = inl (ap (value_at r xs) (sym first_is) ∙ zero_table p n ends.prime r at.domain xs at.point a null)
+    split (inr null) = inr (zero_table p n ends.prime r at.domain xs at.point (c, ends.canonical.0) null)

@@ -3,7 +3,7 @@ use Rattle.std.specs.Prelude.{◌≡◌, ◌≢◌, ◌⊎◌, ℕ, ◌+◌, Lis
 use Rattle.polynomials.specs.Primes.{IsPrime}
 use Rattle.polynomials.specs.Polynomials.{Polynomial, ArePolynomials}
 use Rattle.polynomials.specs.Views.{degree_in, lead_in, main_var, initial_of}
-use Rattle.zero_sets.specs.Domains.{Tables, IsFiniteDomain, IsPoint, value_at}
+use Rattle.zero_sets.specs.Domains.{Tables, IsPointOver, value_at}
 use Rattle.zero_sets.specs.ZeroSets.{InZeroSet, InQuasiComponent, AreNonZero, IsTriangular}
 use Rattle.zero_sets.specs.Certificates.{IsFreeOfMain}
 use Rattle.division_rules.specs.Chains.{IfRow}
@@ -55,8 +55,7 @@ CofactorLeadIsZeroByLeads =
     (p n w v : ℕ) (r : Tables) (xs : List ℕ) (t c : Polynomial) (chain : List Polynomial)
     (z : Row Polynomial)
     → EndWithZeroRow p n w v t c chain z
-    → IsFiniteDomain p r
-    → IsPoint r xs
+    → IsPointOver p r xs
     → AreNonZero r xs (map initial_of chain)
     → value_at r xs (lead_in v t) ≢ r.nil
     → value_at r xs (lead_in v (first_cofactor (list_operations p n) z)) ≡ r.nil
@@ -79,8 +78,7 @@ ReducedCofactorShowsLead =
     (z : Row Polynomial)
     → EndWithZeroRow p n w v t c chain z
     → StandsInTriangular p n v t c chain more
-    → IsFiniteDomain p r
-    → IsPoint r xs
+    → IsPointOver p r xs
     → InQuasiComponent r xs chain
     → value_at r xs (lead_in v t) ≢ r.nil
     → reduction_of p n (chain ++ t ∷ more) (first_cofactor (list_operations p n) z) ≡ []
@@ -92,7 +90,6 @@ ZeroRowSplitsZeros =
     (p n w v : ℕ) (r : Tables) (xs : List ℕ) (t c : Polynomial) (chain : List Polynomial)
     (z : Row Polynomial)
     → EndWithZeroRow p n w v t c chain z
-    → IsFiniteDomain p r
-    → IsPoint r xs
+    → IsPointOver p r xs
     → InZeroSet r xs (t ∷ chain)
     → (value_at r xs (first_cofactor (list_operations p n) z) ≡ r.nil) ⊎ (value_at r xs c ≡ r.nil)

@@ -3,7 +3,7 @@ use Rattle.std.specs.Prelude.{◌≡◌, ◌≢◌, ◌⊎◌, ℕ, suc, ◌≤�
 use Rattle.polynomials.specs.Primes.{IsPrime}
 use Rattle.polynomials.specs.Polynomials.{Polynomial, ArePolynomials}
 use Rattle.polynomials.specs.Views.{degree_in, IsFreeOf}
-use Rattle.zero_sets.specs.Domains.{Tables, IsFiniteDomain, IsPoint, value_at}
+use Rattle.zero_sets.specs.Domains.{Tables, IsPointOver, value_at}
 use Rattle.zero_sets.specs.ZeroSets.{InQuasiComponent, IsTriangular, member_in, members_below}
 use Rattle.division_rules.specs.Lists.{list_operations}
 use Rattle.division_rules.specs.Rows.{Row}
@@ -70,7 +70,6 @@ ZeroRowsShowZeros =
     (p n w v : ℕ) (r : Tables) (xs : List ℕ) (chain : List Polynomial) (t c : Polynomial)
     (z : Row Polynomial)
     → EndWithZeroRowIn p n w v chain t c z
-    → IsFiniteDomain p r
-    → IsPoint r xs
+    → IsPointOver p r xs
     → InQuasiComponent r xs chain
     → ShowsZeros p n w v r xs chain t c z

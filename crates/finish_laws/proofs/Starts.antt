@@ -95,7 +95,7 @@ module _ (p n w v : ℕ) (chain : List Polynomial) (t : Polynomial) (member : Is
 
     -- at a point of the quasi-component it isn't zero
     pub starts_nonzero : (r : Tables) (xs : List ℕ) → IsPointOver p r xs → InQuasiComponent r xs chain → value_at r xs f.first ≢ r.nil
-    starts_nonzero r xs at inside null = at_t.lead (ap (value_at r xs) (sym (initial_of-lead_in v t member_is.1)) ∙ (reductions_have_same_zeros p n r xs below h member.prime at.domain at.point are_generators.1 are_generators.0 at_t.below).1 (ap (value_at r xs) (sym reduced_is) ∙ null))
+    starts_nonzero r xs at inside null = at_t.lead (ap (value_at r xs) (sym (initial_of-lead_in v t member_is.1)) ∙ (reductions_have_same_zeros p n r xs below h member.prime at are_generators.1 are_generators.0 at_t.below).1 (ap (value_at r xs) (sym reduced_is) ∙ null))
       where
         at_t : IsPointAtMember v r xs chain t
         at_t = points_at_members v r xs chain t member.triangular member.member inside

@@ -1,10 +1,12 @@
 -- The words of the laws, tried on the children of x y modulo 5.
 use Rattle.std.proofs.Common.{◌≡◌, [], ◌∷◌, Some, inl, inr, refl, lit≤}
+use Rattle.std.specs.List.{Any}
 use Rattle.polynomials.specs.Polynomials.{Polynomial, term}
 use Rattle.zero_sets.specs.Tasks.{Task, InTask}
 use Rattle.zero_sets.specs.Residues.{residues}
 use Rattle.impose_rules.specs.Impose.{impose_children}
-use Rattle.impose_laws.specs.TaskForms.{IsTaskOver, IsTaskFreeOf, InSomeTask}
+use Rattle.tree_laws.proofs.Some.{some_first, some_right, some_nowhere, some_cases}
+use Rattle.impose_laws.specs.TaskForms.{IsTaskOver, IsTaskFreeOf}
 
 abbrev x : Polynomial
 x = term (1 ∷ 0 ∷ []) 1 ∷ []
@@ -37,9 +39,11 @@ children = refl
 in_the_root : InTask (residues 5) (0 ∷ 3 ∷ []) root
 in_the_root = ((tt, tt), (refl, tt), tt)
 
-in_a_child : InSomeTask (residues 5) (0 ∷ 3 ∷ []) (first ∷ second ∷ [])
-in_a_child = inr (inl ((tt, tt), (refl, (refl, tt)), tt))
+in_a_child : Any (InTask (residues 5) (0 ∷ 3 ∷ [])) (first ∷ second ∷ [])
+in_a_child = some_right (InTask (residues 5) (0 ∷ 3 ∷ [])) (first ∷ []) (second ∷ []) (some_first (InTask (residues 5) (0 ∷ 3 ∷ [])) second [] ((tt, tt), (refl, (refl, tt)), tt))
 
-not_in_the_first : InSomeTask (residues 5) (0 ∷ 3 ∷ []) (first ∷ []) → ⊥
-not_in_the_first (inl h) = h.2.0 refl
-not_in_the_first (inr h) = h
+not_in_the_first : Any (InTask (residues 5) (0 ∷ 3 ∷ [])) (first ∷ []) → ⊥
+not_in_the_first h = elim (some_cases (InTask (residues 5) (0 ∷ 3 ∷ [])) first [] h) [
+  | inl here ↦ here.2.0 refl
+  | inr later ↦ some_nowhere (InTask (residues 5) (0 ∷ 3 ∷ [])) later
+]

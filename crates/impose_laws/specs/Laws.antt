@@ -1,6 +1,6 @@
 -- What the children of an imposed polynomial keep of a task whose queue starts with it.
 use Rattle.std.specs.Prelude.{◌≡◌, ℕ, ◌≤◌, max, List, ◌∷◌, length, IfSome}
-use Rattle.std.specs.List.{AllByRecursion}
+use Rattle.std.specs.List.{AllByRecursion, Any}
 use Rattle.polynomials.specs.Primes.{IsPrime}
 use Rattle.polynomials.specs.Polynomials.{Polynomial}
 use Rattle.polynomials.specs.Views.{degree_in}
@@ -8,7 +8,7 @@ use Rattle.zero_sets.specs.Domains.{Tables, IsPointOver}
 use Rattle.zero_sets.specs.ZeroSets.{IsTriangular}
 use Rattle.zero_sets.specs.Tasks.{Task, InTask}
 use Rattle.impose_rules.specs.Impose.{impose_children}
-use Rattle.impose_laws.specs.TaskForms.{IsTaskOver, KeepsForm, InSomeTask}
+use Rattle.impose_laws.specs.TaskForms.{IsTaskOver, KeepsForm}
 
 -- where all products fit, each point of the task, over each finite domain of the characteristic, is
 -- a point of one of the children
@@ -21,7 +21,7 @@ ChildrenCoverTheTask =
     → task.queue ≡ f ∷ rest
     → IsPointOver p r xs
     → InTask r xs task
-    → IfSome (impose_children p n w task.chain rest task.nonzero f) (InSomeTask r xs)
+    → IfSome (impose_children p n w task.chain rest task.nonzero f) (Any (InTask r xs))
 
 -- each child keeps the form of the task
 abbrev pub ChildrenKeepTheForm : Type 0

@@ -1,11 +1,10 @@
--- Tasks of canonical polynomials, what a child keeps of a task, and points of several tasks.
-use Rattle.std.specs.Prelude.{◌≡◌, ◌⊎◌, ℕ, List, [], ◌∷◌}
+-- Tasks of canonical polynomials, and what a child keeps of a task.
+use Rattle.std.specs.Prelude.{◌≡◌, ℕ, List}
 use Rattle.std.specs.List.{AllByRecursion}
 use Rattle.polynomials.specs.Polynomials.{Polynomial, ArePolynomials, monic}
 use Rattle.polynomials.specs.Views.{AreFreeOf}
-use Rattle.zero_sets.specs.Domains.{Tables}
 use Rattle.zero_sets.specs.ZeroSets.{IsTriangular}
-use Rattle.zero_sets.specs.Tasks.{Task, InTask, AreMonicApart}
+use Rattle.zero_sets.specs.Tasks.{Task, AreMonicApart}
 
 -- the polynomials of the task are canonical, in n variables modulo p
 abbrev pub IsTaskOver : ℕ → ℕ → Task → Type 0
@@ -29,8 +28,3 @@ pub record KeepsForm (p n : ℕ) (task child : Task) : Type 0 where
   pub apart : AreMonicApart p task.nonzero → AreMonicApart p child.nonzero
   pub monic : AreMonic p task.chain → AreMonic p child.chain
   pub free : (v : ℕ) → IsTaskFreeOf v task → IsTaskFreeOf v child
-
--- the point is one of some task of the list
-abbrev pub InSomeTask : Tables → List ℕ → List Task → Type 0
-InSomeTask r xs [] = ⊥
-InSomeTask r xs (t ∷ ts) = InTask r xs t ⊎ InSomeTask r xs ts

@@ -1,5 +1,6 @@
 -- Where the children cover a task, the step to them does.
 use Rattle.std.proofs.Common.{◌≡◌, ℕ, List, [], ◌∷◌, Option, Some, None, IfSome, sym, subst}
+use Rattle.std.specs.List.{Any}
 use Rattle.mono_words.specs.declared.mono.TheConstants.{VARS}
 use Rattle.polynomials.specs.Primes.{IsPrime}
 use Rattle.polynomials.specs.Polynomials.{Polynomial}
@@ -7,12 +8,12 @@ use Rattle.zero_sets.specs.Domains.{Tables, IsPointOver}
 use Rattle.zero_sets.specs.ZeroSets.{IsTriangular}
 use Rattle.zero_sets.specs.Tasks.{Task, InTask}
 use Rattle.impose_rules.specs.Impose.{impose_children, impose_step, step_to_fitting}
-use Rattle.impose_laws.specs.TaskForms.{IsTaskOver, InSomeTask}
+use Rattle.impose_laws.specs.TaskForms.{IsTaskOver}
 use Rattle.impose_laws.proofs.Cover.{children_cover_the_task}
 use Rattle.split_paths.specs.declared.splitter.Step.{Step}
 use Rattle.intersect.specs.Covers.{CoversTask}
 
-step_covers : (p : ℕ) (task : Task) (kids : Option (List Task)) → ((r : Tables) (xs : List ℕ) → IsPointOver p r xs → InTask r xs task → IfSome kids (InSomeTask r xs)) → CoversTask p task (step_to_fitting kids)
+step_covers : (p : ℕ) (task : Task) (kids : Option (List Task)) → ((r : Tables) (xs : List ℕ) → IsPointOver p r xs → InTask r xs task → IfSome kids (Any (InTask r xs))) → CoversTask p task (step_to_fitting kids)
 step_covers p task None all = tt
 step_covers p task (Some []) all = all
 step_covers p task (Some (kid ∷ kids)) all = all

@@ -1,9 +1,9 @@
 -- Steps that lose no point of a task.
 use Rattle.std.specs.Prelude.{ℕ, List, []}
+use Rattle.std.specs.List.{Any}
 use Rattle.polynomials.specs.Polynomials.{Polynomial}
 use Rattle.zero_sets.specs.Domains.{Tables, IsPointOver}
 use Rattle.zero_sets.specs.Tasks.{Task, InTask}
-use Rattle.impose_laws.specs.TaskForms.{InSomeTask}
 use Rattle.split_paths.specs.declared.splitter.Step.{Step}
 use Rattle.split_paths.specs.declared.splitter.Step.TheVariants.{Gone, Emit, TooWide, Kids}
 
@@ -11,7 +11,7 @@ use Rattle.split_paths.specs.declared.splitter.Step.TheVariants.{Gone, Emit, Too
 -- tasks
 abbrev pub AreCovering : ℕ → Task → List Task → Type 0
 AreCovering p task kids =
-    (r : Tables) (xs : List ℕ) → IsPointOver p r xs → InTask r xs task → InSomeTask r xs kids
+    (r : Tables) (xs : List ℕ) → IsPointOver p r xs → InTask r xs task → Any (InTask r xs) kids
 
 -- the children cover the task, which has no points where it is gone; no leaf is emitted, and where
 -- a product doesn't fit nothing is said

@@ -48,4 +48,4 @@ module _ (p n v : ℕ) (r : Tables) (xs : List ℕ) where
 
 -- the law
 pub remainder_rows_end_in_common_zero : RemainderRowsEndInCommonZero
-remainder_rows_end_in_common_zero p n w v r xs chain t c prime domain point are start zeros others = ends_in_common_zero p n v r xs c (remainder_rows (list_operations p n) w v chain t c) zeros.1.0 (remainder_rows_fall p n w v chain t c prime are start).falls (remainder_rows_vanish p n w v r xs chain t c prime domain point are start zeros) others
+remainder_rows_end_in_common_zero p n w v r xs chain t c prime at are start zeros others = ends_in_common_zero p n v r xs c (remainder_rows (list_operations p n) w v chain t c) zeros.1.0 (remainder_rows_fall p n w v chain t c prime are start).falls (remainder_rows_vanish p n w v r xs chain t c prime at are start zeros) others

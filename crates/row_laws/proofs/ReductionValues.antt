@@ -88,13 +88,13 @@ module _ (p n : ℕ) (prime : IsPrime p) (chain : List Polynomial) (are : ArePol
 
 -- the laws of reductions
 pub reductions_multiply_values : ReductionsMultiplyValues
-reductions_multiply_values p n r xs chain f prime domain point are i zeros = reduction_multiple p n prime chain are r domain xs point f i zeros
+reductions_multiply_values p n r xs chain f prime at are i zeros = reduction_multiple p n prime chain are r at.domain xs at.point f i zeros
 
 pub reductions_keep_zeros : ReductionsKeepZeros
-reductions_keep_zeros p n r xs chain f prime domain point are i zeros = reduction_zero p n prime chain are r domain xs point f i zeros
+reductions_keep_zeros p n r xs chain f prime at are i zeros = reduction_zero p n prime chain are r at.domain xs at.point f i zeros
 
 pub reductions_have_same_zeros : ReductionsHaveSameZeros
-reductions_have_same_zeros p n r xs chain f prime domain point are i inside = (reduction_zero p n prime chain are r domain xs point f i inside.0, zero_only_by_reduction p n prime chain are r domain xs point f i inside.0 inside.1)
+reductions_have_same_zeros p n r xs chain f prime at are i inside = (reduction_zero p n prime chain are r at.domain xs at.point f i inside.0, zero_only_by_reduction p n prime chain are r at.domain xs at.point f i inside.0 inside.1)
 
 pub reduced_to_zero_vanishes : ReducedToZeroVanishes
-reduced_to_zero_vanishes p n r xs chain f prime domain point are i inside none = zero_only_by_reduction p n prime chain are r domain xs point f i inside.0 inside.1 (ap (value_at r xs) none)
+reduced_to_zero_vanishes p n r xs chain f prime at are i inside none = zero_only_by_reduction p n prime chain are r at.domain xs at.point f i inside.0 inside.1 (ap (value_at r xs) none)

@@ -73,4 +73,4 @@ module _ (p n : ℕ) (prime : IsPrime p) (r : Tables) (domain : IsFiniteDomain p
 
 -- at every point
 pub divisions_multiply_values : DivisionsMultiplyValues
-divisions_multiply_values p n v r xs f g prime domain point i j zero = multiply_values p n prime r domain xs point v f g i j zero
+divisions_multiply_values p n v r xs f g prime at i j zero = multiply_values p n prime r at.domain xs at.point v f g i j zero

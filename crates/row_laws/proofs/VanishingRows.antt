@@ -46,17 +46,17 @@ module _ (p n : ℕ) (prime : IsPrime p) (r : Tables) (domain : IsFiniteDomain p
 
 -- the laws
 pub remainder_rows_vanish : RemainderRowsVanish
-remainder_rows_vanish p n w v r xs chain t c prime domain point (it, (ic, are)) start (zt, (zc, zeros)) = subst (λ rows. AreZeroByLeads p n v r xs c rows.later) (lifted-remainder_rows p n prime.many chain are w v t c it ic) (subst (λ g. AreZeroByLeads p n v r xs g (down_all p n prime.many rows.later)) (down-up p n prime.many c ic) (vanish_at p n prime r domain xs point v (Unit {0}) (up p n prime.many c ic) rows.later vanish tt))
+remainder_rows_vanish p n w v r xs chain t c prime at (it, (ic, are)) start (zt, (zc, zeros)) = subst (λ rows. AreZeroByLeads p n v r xs c rows.later) (lifted-remainder_rows p n prime.many chain are w v t c it ic) (subst (λ g. AreZeroByLeads p n v r xs g (down_all p n prime.many rows.later)) (down-up p n prime.many c ic) (vanish_at p n prime r at.domain xs at.point v (Unit {0}) (up p n prime.many c ic) rows.later vanish tt))
   where
     rows : LaterRows (CanonicalPolynomial p n)
     rows = remainder_rows (canonical_operations p n prime.many) w v (up_rows p n prime.many chain are) (up p n prime.many t it) (up p n prime.many c ic)
 
     E : Evaluation (polynomial_setting p n prime) (Element r)
-    E = table_evaluation p n prime r domain xs point
+    E = table_evaluation p n prime r at.domain xs at.point
 
     vanish : Vanish (canonical_operations p n prime.many) E.val E.values.nil v (Unit {0}) (up p n prime.many c ic) rows.later
-    vanish = canonical_rows_vanish (polynomial_setting p n prime) E w v (up_rows p n prime.many chain are) (start_base p n prime v chain are t.first c.first start) (chain_zero p n prime r domain xs point chain are zeros) (up p n prime.many t it) (up p n prime.many c ic) (start_turn p n prime v chain are t c it ic start) (table_zero p n prime r domain xs point (t.first, it.0) zt) (table_zero p n prime r domain xs point (c.first, ic.0) zc)
+    vanish = canonical_rows_vanish (polynomial_setting p n prime) E w v (up_rows p n prime.many chain are) (start_base p n prime v chain are t.first c.first start) (chain_zero p n prime r at.domain xs at.point chain are zeros) (up p n prime.many t it) (up p n prime.many c ic) (start_turn p n prime v chain are t c it ic start) (table_zero p n prime r at.domain xs at.point (t.first, it.0) zt) (table_zero p n prime r at.domain xs at.point (c.first, ic.0) zc)
 
 -- and of combinations
 pub combinations_keep_zeros : CombinationsKeepZeros
-combinations_keep_zeros p n r xs gs f prime domain point are i over zeros = zero_table p n prime r domain xs point (f.first, i.0) (combination_zero (polynomial_setting p n prime) (table_evaluation p n prime r domain xs point) (up_all p n prime.many gs are) (up p n prime.many f i) (up_combination p n prime gs are f (record { canonical = i; combination = over })) (generators_zero p n prime r domain xs point gs are zeros))
+combinations_keep_zeros p n r xs gs f prime at are i over zeros = zero_table p n prime r at.domain xs at.point (f.first, i.0) (combination_zero (polynomial_setting p n prime) (table_evaluation p n prime r at.domain xs at.point) (up_all p n prime.many gs are) (up p n prime.many f i) (up_combination p n prime gs are f (record { canonical = i; combination = over })) (generators_zero p n prime r at.domain xs at.point gs are zeros))

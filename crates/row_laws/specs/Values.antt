@@ -3,7 +3,7 @@ use Rattle.std.specs.Prelude.{◌≡◌, ◌≢◌, ◌↔◌, ℕ, List, [], ma
 use Rattle.polynomials.specs.Primes.{IsPrime}
 use Rattle.polynomials.specs.Polynomials.{Polynomial, IsPolynomial, ArePolynomials}
 use Rattle.polynomials.specs.Views.{lead_in, initial_of}
-use Rattle.zero_sets.specs.Domains.{Tables, IsFiniteDomain, IsPoint, times_in, power_at, value_at}
+use Rattle.zero_sets.specs.Domains.{Tables, IsPointOver, times_in, power_at, value_at}
 use Rattle.zero_sets.specs.ZeroSets.{InZeroSet, InQuasiComponent}
 use Rattle.division_rules.specs.Lists.{list_operations}
 use Rattle.division_rules.specs.Points.{product_of_all}
@@ -45,8 +45,7 @@ abbrev pub DivisionsMultiplyValues : Type 0
 DivisionsMultiplyValues =
     (p n v : ℕ) (r : Tables) (xs : List ℕ) (f g : Row Polynomial)
     → IsPrime p
-    → IsFiniteDomain p r
-    → IsPoint r xs
+    → IsPointOver p r xs
     → IsPolynomialRow p n f
     → IsPolynomialRow p n g
     → value_at r xs g.first ≡ r.nil
@@ -64,8 +63,7 @@ abbrev pub ReductionsMultiplyValues : Type 0
 ReductionsMultiplyValues =
     (p n : ℕ) (r : Tables) (xs : List ℕ) (chain : List Polynomial) (f : Polynomial)
     → IsPrime p
-    → IsFiniteDomain p r
-    → IsPoint r xs
+    → IsPointOver p r xs
     → ArePolynomials p n chain
     → IsPolynomial p n f
     → InZeroSet r xs chain
@@ -77,8 +75,7 @@ abbrev pub ReductionsKeepZeros : Type 0
 ReductionsKeepZeros =
     (p n : ℕ) (r : Tables) (xs : List ℕ) (chain : List Polynomial) (f : Polynomial)
     → IsPrime p
-    → IsFiniteDomain p r
-    → IsPoint r xs
+    → IsPointOver p r xs
     → ArePolynomials p n chain
     → IsPolynomial p n f
     → InZeroSet r xs chain
@@ -90,8 +87,7 @@ abbrev pub ReductionsHaveSameZeros : Type 0
 ReductionsHaveSameZeros =
     (p n : ℕ) (r : Tables) (xs : List ℕ) (chain : List Polynomial) (f : Polynomial)
     → IsPrime p
-    → IsFiniteDomain p r
-    → IsPoint r xs
+    → IsPointOver p r xs
     → ArePolynomials p n chain
     → IsPolynomial p n f
     → InQuasiComponent r xs chain
@@ -102,8 +98,7 @@ abbrev pub ReducedToZeroVanishes : Type 0
 ReducedToZeroVanishes =
     (p n : ℕ) (r : Tables) (xs : List ℕ) (chain : List Polynomial) (f : Polynomial)
     → IsPrime p
-    → IsFiniteDomain p r
-    → IsPoint r xs
+    → IsPointOver p r xs
     → ArePolynomials p n chain
     → IsPolynomial p n f
     → InQuasiComponent r xs chain
@@ -115,8 +110,7 @@ abbrev pub CombinationsKeepZeros : Type 0
 CombinationsKeepZeros =
     (p n : ℕ) (r : Tables) (xs : List ℕ) (gs : List Polynomial) (f : Row Polynomial)
     → IsPrime p
-    → IsFiniteDomain p r
-    → IsPoint r xs
+    → IsPointOver p r xs
     → ArePolynomials p n gs
     → IsPolynomialRow p n f
     → IsCombinationOf (list_operations p n) gs f

@@ -2,7 +2,7 @@
 use Rattle.std.specs.Prelude.{◌≡◌, ℕ, List, ◌∷◌, take, slice_get, Some}
 use Rattle.polynomials.specs.Primes.{IsPrime}
 use Rattle.polynomials.specs.Polynomials.{Polynomial}
-use Rattle.zero_sets.specs.Domains.{Tables, IsFiniteDomain, IsPoint, value_at}
+use Rattle.zero_sets.specs.Domains.{Tables, IsPointOver, value_at}
 use Rattle.zero_sets.specs.ZeroSets.{InZeroSet, AreNonZero}
 use Rattle.division_rules.specs.Lists.{list_operations}
 use Rattle.division_rules.specs.PolynomialRows.{ArePolynomialRows}
@@ -26,8 +26,7 @@ abbrev pub RemainderRowsVanish : Type 0
 RemainderRowsVanish =
     (p n w v : ℕ) (r : Tables) (xs : List ℕ) (chain : List (Row Polynomial)) (t c : Row Polynomial)
     → IsPrime p
-    → IsFiniteDomain p r
-    → IsPoint r xs
+    → IsPointOver p r xs
     → ArePolynomialRows p n (t ∷ c ∷ chain)
     → StartRemainderRows v (first_entries chain) t.first c.first
     → InZeroSet r xs (first_entries (t ∷ c ∷ chain))
@@ -45,8 +44,7 @@ abbrev pub RemainderRowsEndInCommonZero : Type 0
 RemainderRowsEndInCommonZero =
     (p n w v : ℕ) (r : Tables) (xs : List ℕ) (chain : List (Row Polynomial)) (t c : Row Polynomial)
     → IsPrime p
-    → IsFiniteDomain p r
-    → IsPoint r xs
+    → IsPointOver p r xs
     → ArePolynomialRows p n (t ∷ c ∷ chain)
     → StartRemainderRows v (first_entries chain) t.first c.first
     → InZeroSet r xs (first_entries (t ∷ c ∷ chain))

@@ -8,7 +8,7 @@ use Rattle.polynomials.specs.Polynomials.{Polynomial, ArePolynomials}
 use Rattle.polynomials.specs.Views.{degree_in}
 use Rattle.polynomials.proofs.Degrees.{lead_in_nonzero}
 use Rattle.polynomials.proofs.PolynomialRing.{CanonicalPolynomial}
-use Rattle.zero_sets.specs.Domains.{Tables, IsFiniteDomain, IsPoint, value_at}
+use Rattle.zero_sets.specs.Domains.{Tables, IsPointOver, value_at}
 use Rattle.zero_sets.specs.ZeroSets.{InZeroSet, AreNonZero}
 use Rattle.division_rules.specs.Operations.{lead}
 use Rattle.division_rules.specs.Rows.{Row, first_entries}
@@ -149,7 +149,7 @@ module _ (p w v : ℕ) (prime : IsPrime p) (chain : List (Row Polynomial)) (are 
 
   -- zeros
   pub outcome_vanishes : IfRows (VanishesWithGenerators p (c.first ∷ t.first ∷ first_entries chain)) (outcome_of p w v chain t c)
-  outcome_vanishes = by_leads (VanishesWithGenerators p (c.first ∷ t.first ∷ first_entries chain)) (λ rows e d xs domain point zeros. vanishes rows e d xs domain point zeros)
+  outcome_vanishes = by_leads (VanishesWithGenerators p (c.first ∷ t.first ∷ first_entries chain)) (λ rows e d xs point zeros. vanishes rows e d xs point zeros)
     where
       same_row : (x y : Row Polynomial) → Some x ≡ Some y → x ≡ y
       same_row x y e = cc
@@ -157,7 +157,7 @@ module _ (p w v : ℕ) (prime : IsPrime p) (chain : List (Row Polynomial)) (are 
       two_less : (j : ℕ) → suc (suc j) - 2 ≡ j
       two_less j = omega arith
 
-      vanishes : (rows : LaterRows Polynomial) → remainder_rows (operations p) w v chain t c ≡ rows → (d : Tables) (xs : List ℕ) → IsFiniteDomain p d → IsPoint d xs → InZeroSet d xs (c.first ∷ t.first ∷ first_entries chain) → VanishesBehindLeads d xs (record { rows = t ∷ c ∷ rows.later; leads = leads (operations p) v (c ∷ rows.later) })
-      vanishes rows e d xs domain point zeros zero f at leads_are = ap (λ (x : Row Polynomial). value_at d xs x.first) (sym (same_row t f at)) ∙ zeros.1.0
-      vanishes rows e d xs domain point zeros (suc zero) f at leads_are = ap (λ (x : Row Polynomial). value_at d xs x.first) (sym (same_row c f at)) ∙ zeros.0
-      vanishes rows e d xs domain point zeros (suc (suc j)) f at leads_are = remainder_rows_vanish p VARS w v d xs chain t c prime domain point (it, (ic, are)) start (zeros.1.0, (zeros.0, zeros.1.1)) j f (subst (λ x. slice_get x.later j ≡ Some f) (sym e) at) (subst (λ x. AreNonZero d xs (take j (leads (operations p) v (c ∷ x.later)))) (sym e) (subst (λ i. AreNonZero d xs (take i (leads (operations p) v (c ∷ rows.later)))) (two_less j) leads_are))
+      vanishes : (rows : LaterRows Polynomial) → remainder_rows (operations p) w v chain t c ≡ rows → (d : Tables) (xs : List ℕ) → IsPointOver p d xs → InZeroSet d xs (c.first ∷ t.first ∷ first_entries chain) → VanishesBehindLeads d xs (record { rows = t ∷ c ∷ rows.later; leads = leads (operations p) v (c ∷ rows.later) })
+      vanishes rows e d xs point zeros zero f at leads_are = ap (λ (x : Row Polynomial). value_at d xs x.first) (sym (same_row t f at)) ∙ zeros.1.0
+      vanishes rows e d xs point zeros (suc zero) f at leads_are = ap (λ (x : Row Polynomial). value_at d xs x.first) (sym (same_row c f at)) ∙ zeros.0
+      vanishes rows e d xs point zeros (suc (suc j)) f at leads_are = remainder_rows_vanish p VARS w v d xs chain t c prime point (it, (ic, are)) start (zeros.1.0, (zeros.0, zeros.1.1)) j f (subst (λ x. slice_get x.later j ≡ Some f) (sym e) at) (subst (λ x. AreNonZero d xs (take j (leads (operations p) v (c ∷ x.later)))) (sym e) (subst (λ i. AreNonZero d xs (take i (leads (operations p) v (c ∷ rows.later)))) (two_less j) leads_are))

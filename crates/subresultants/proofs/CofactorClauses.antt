@@ -5,7 +5,7 @@ use Rattle.polynomials.specs.Primes.{IsPrime}
 use Rattle.polynomials.specs.Polynomials.{Polynomial, IsPolynomial, ArePolynomials}
 use Rattle.polynomials.specs.Views.{degree_in}
 use Rattle.division_rules.specs.Cofactors.{AreCofactorSteps}
-use Rattle.division_rules.specs.RemainderRows.{LaterRows, remainder_rows}
+use Rattle.division_rules.specs.RemainderRows.{LaterRows}
 use Rattle.division_rules.specs.RemainderRowsWithin.{remainder_rows_within}
 use Rattle.division_rules.specs.Rows.{Row}
 use Rattle.division_rules.proofs.WithinLimits.{gives-remainder_rows}

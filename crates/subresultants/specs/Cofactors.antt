@@ -4,7 +4,7 @@ use Rattle.std.specs.Prelude.{◌≡◌, ◌≢◌, ℕ, List, [], ◌∷◌, �
 use Rattle.mono_words.specs.declared.mono.TheConstants.{VARS}
 use Rattle.polynomials.specs.Polynomials.{Polynomial}
 use Rattle.polynomials.specs.Views.{degree_in, lead_in, initial_of}
-use Rattle.zero_sets.specs.Domains.{Tables, IsFiniteDomain, IsPoint, value_at}
+use Rattle.zero_sets.specs.Domains.{Tables, IsPointOver, value_at}
 use Rattle.zero_sets.specs.ZeroSets.{InQuasiComponent, AreNonZero}
 use Rattle.division_rules.specs.Rows.{Row}
 use Rattle.division_rules.specs.Units.{unit_rows}
@@ -46,8 +46,7 @@ abbrev pub VanishesByLeads :
     ℕ → ℕ → Polynomial → List Polynomial → RemainderRows → Row Polynomial → Type 0
 VanishesByLeads p v t chain r z =
     (d : Tables) (xs : List ℕ)
-    → IsFiniteDomain p d
-    → IsPoint d xs
+    → IsPointOver p d xs
     → AreNonZero d xs (map initial_of chain)
     → value_at d xs (lead_in v t) ≢ d.nil
     → value_at d xs (lead_in v (first_cofactor (operations p) z)) ≡ d.nil
@@ -60,8 +59,7 @@ abbrev pub ShowsLeadWhereReduced :
 ShowsLeadWhereReduced p v t c chain r z =
     (d : Tables) (xs : List ℕ) (more : List Polynomial)
     → StandsInTriangular p VARS v t c chain more
-    → IsFiniteDomain p d
-    → IsPoint d xs
+    → IsPointOver p d xs
     → InQuasiComponent d xs chain
     → value_at d xs (lead_in v t) ≢ d.nil
     → reduction_of p VARS (chain ++ t ∷ more) (first_cofactor (operations p) z) ≡ []

@@ -1,7 +1,7 @@
 -- What holds of remainder rows: of each row, of degrees and leads, and at points.
 use Rattle.std.specs.Prelude.{◌≡◌, ◌≢◌, ℕ, suc, ◌-◌, List, [], ◌∷◌, length, take, drop, slice_get, All, Option, Some, None}
 use Rattle.polynomials.specs.Polynomials.{Polynomial}
-use Rattle.zero_sets.specs.Domains.{Tables, IsFiniteDomain, IsPoint, value_at}
+use Rattle.zero_sets.specs.Domains.{Tables, IsPointOver, value_at}
 use Rattle.zero_sets.specs.ZeroSets.{InZeroSet, AreNonZero}
 use Rattle.division_rules.specs.Rows.{Row}
 use Rattle.division_rules.specs.Chains.{EachRow}
@@ -69,7 +69,6 @@ VanishesBehindLeads d xs r =
 abbrev pub VanishesWithGenerators : ℕ → List Polynomial → RemainderRows → Type 0
 VanishesWithGenerators p gs r =
     (d : Tables) (xs : List ℕ)
-    → IsFiniteDomain p d
-    → IsPoint d xs
+    → IsPointOver p d xs
     → InZeroSet d xs gs
     → VanishesBehindLeads d xs r

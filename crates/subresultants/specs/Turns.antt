@@ -1,11 +1,10 @@
 -- One turn of remainder rows within a width.
-use Rattle.std.specs.Prelude.{◌≢◌, ℕ, ◌-◌, true, false, List, [], Option, Some, None, unwrap_or}
+use Rattle.std.specs.Prelude.{◌≢◌, ℕ, true, false, List, [], Option, Some, None, unwrap_or}
 use Rattle.mono_words.specs.declared.mono.TheConstants.{VARS}
 use Rattle.polynomials.specs.Polynomials.{Polynomial, IsPolynomial, is_zero}
 use Rattle.division_rules.specs.Operations.{lead}
-use Rattle.division_rules.specs.Quotients.{quotient_within}
 use Rattle.division_rules.specs.Rows.{Row}
-use Rattle.division_rules.specs.Within.{and_then, times_within, power_of_within}
+use Rattle.division_rules.specs.Within.{and_then}
 use Rattle.division_rules.specs.RemainderRows.{TurnBefore, divided, fall}
 use Rattle.division_rules.specs.RemainderRowsWithin.{psi_within, beta_within, undivided_within}
 use Rattle.pseudo_division.specs.FieldOperations.{operations}

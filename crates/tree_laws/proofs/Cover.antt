@@ -1,6 +1,6 @@
 -- The answer of a tree whose steps lose no point has the points of the root.
 use Rattle.std.proofs.Common.{◌≡◌, ℕ, zero, suc, ◌+◌, inl, inr, List, [], ◌∷◌, ◌++◌, None}
-use Rattle.std.specs.List.{AllByRecursion, flat_map}
+use Rattle.std.specs.List.{AllByRecursion, Any, flat_map}
 use Rattle.split_paths.specs.declared.event.Event.{Event}
 use Rattle.split_paths.specs.declared.splitter.Step.{Step}
 use Rattle.split_paths.specs.declared.splitter.Step.TheVariants.{Gone, Emit, TooWide, Kids}
@@ -9,7 +9,7 @@ use Rattle.split_paths.specs.Lawful.{IsLawfulStep}
 use Rattle.split_paths.specs.Places.{Place}
 use Rattle.split_paths.specs.Tree.{event_here, numbered, children, event_at, preorder_below}
 use Rattle.split_paths.proofs.Closed.{lawful_children}
-use Rattle.tree_laws.specs.Points.{SomeOf, IsKeptBy}
+use Rattle.tree_laws.specs.Points.{IsKeptBy}
 use Rattle.tree_laws.specs.Laws.{KeepsLaw, AnswersCoverTheRoot}
 use Rattle.tree_laws.proofs.Some.{some_first, some_right, some_nowhere, some_cases}
 use Rattle.tree_laws.proofs.Joined.{first_unstopped, second_unstopped, some_of_first, some_of_second}
@@ -17,14 +17,14 @@ use Rattle.tree_laws.proofs.Joined.{first_unstopped, second_unstopped, some_of_f
 module _ {T L : Type 0} (step : T → Step T L) (lawful_task : T → Type 0) (lawful_leaf : L → Type 0) (in_task : T → Type 0) (in_leaf : L → Type 0) where
   -- a leaf of these events has the point
   abbrev IsFound : List (Event L) → Type 0
-  IsFound events = SomeOf (λ (chain : List ℕ × L). in_leaf chain.1) (answer_of events).chains
+  IsFound events = Any (λ (chain : List ℕ × L). in_leaf chain.1) (answer_of events).chains
 
   -- if they aren't stopped
   abbrev IsCovered : List (Event L) → Type 0
   IsCovered events = (answer_of events).stop ≡ None → IsFound events
 
   -- what is below a place with the point is covered, then what is below several, one of which has it
-  covered_flat_map : (below : Place T → List (Event L)) → ((kid : Place T) → lawful_task kid.task → in_task kid.task → IsCovered (below kid)) → (kids : List (Place T)) → AllByRecursion (λ (kid : Place T). lawful_task kid.task) kids → SomeOf (λ (kid : Place T). in_task kid.task) kids → IsCovered (flat_map below kids)
+  covered_flat_map : (below : Place T → List (Event L)) → ((kid : Place T) → lawful_task kid.task → in_task kid.task → IsCovered (below kid)) → (kids : List (Place T)) → AllByRecursion (λ (kid : Place T). lawful_task kid.task) kids → Any (λ (kid : Place T). in_task kid.task) kids → IsCovered (flat_map below kids)
   covered_flat_map below each [] lawful some on = absurd (some_nowhere (λ (kid : Place T). in_task kid.task) some)
   covered_flat_map below each (kid ∷ kids) lawful some on = elim (some_cases (λ (other : Place T). in_task other.task) kid kids some) [
     | inl here ↦ some_of_first (λ (chain : List ℕ × L). in_leaf chain.1) (below kid) (flat_map below kids) (each kid lawful.0 here (first_unstopped (below kid) (flat_map below kids) on))
@@ -32,7 +32,7 @@ module _ {T L : Type 0} (step : T → Step T L) (lawful_task : T → Type 0) (la
   ]
 
   -- a child with the point keeps it where children are numbered
-  some_numbered : (path : List ℕ) (n i : ℕ) (kids : List T) → SomeOf in_task kids → SomeOf (λ (kid : Place T). in_task kid.task) (numbered path n i kids)
+  some_numbered : (path : List ℕ) (n i : ℕ) (kids : List T) → Any in_task kids → Any (λ (kid : Place T). in_task kid.task) (numbered path n i kids)
   some_numbered path n i [] some = absurd (some_nowhere in_task some)
   some_numbered path n i (kid ∷ kids) some = elim (some_cases in_task kid kids some) [
     | inl here ↦ some_first (λ (other : Place T). in_task other.task) (record { path = path ++ i ∷ []; steps = n; task = kid }) (numbered path n (i + 1) kids) here

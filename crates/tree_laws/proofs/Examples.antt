@@ -1,11 +1,12 @@
 -- The words of the laws on a tree of five tasks, and the law of the cover there.
 use Rattle.std.proofs.Common.{◌≡◌, ℕ, zero, suc, ◌*◌, List, [], ◌∷◌, None, refl, arith}
+use Rattle.std.specs.List.{Any}
 use Rattle.split_paths.specs.declared.splitter.Step.{Step}
 use Rattle.split_paths.specs.declared.splitter.Step.TheVariants.{Gone, Emit, Kids}
 use Rattle.split_paths.specs.Answer.{answer_of}
 use Rattle.split_paths.specs.Places.{Place}
 use Rattle.split_paths.specs.Tree.{events_of}
-use Rattle.tree_laws.specs.Points.{SomeOf, IsKeptBy, IfEmitted}
+use Rattle.tree_laws.specs.Points.{IsKeptBy, IfEmitted}
 use Rattle.tree_laws.specs.Laws.{KeepsLaw}
 use Rattle.tree_laws.proofs.Cover.{answers_cover_the_root}
 use Rattle.tree_laws.proofs.Emitted.{answers_are_emitted}
@@ -39,8 +40,8 @@ IsMultipleOfTen leaf = (k : ℕ) × (leaf ≡ k * 10)
 abbrev root : Place ℕ
 root = record { path = []; steps = 9; task = 0 }
 
-second_of_two : SomeOf HasPoint (1 ∷ 2 ∷ [])
-second_of_two = (2, (1, omega arith, refl), tt)
+second_of_two : Any HasPoint (1 ∷ 2 ∷ [])
+second_of_two = (1, 2, omega arith, refl, tt)
 
 kept_in_a_child : IsKeptBy HasPoint IsThirty (example_step 0)
 kept_in_a_child = second_of_two
@@ -64,7 +65,7 @@ keeps_law (suc (suc (suc (suc task)))) lawful = tt
 loses_none : (task : ℕ) → IsAny task → HasPoint task → IsKeptBy HasPoint IsThirty (example_step task)
 loses_none zero lawful has = second_of_two
 loses_none (suc zero) lawful has = absurd has
-loses_none (suc (suc zero)) lawful has = (3, (0, omega arith, refl), tt)
+loses_none (suc (suc zero)) lawful has = (0, 3, omega arith, refl, tt)
 loses_none (suc (suc (suc zero))) lawful has = refl
 loses_none (suc (suc (suc (suc task)))) lawful has = has
 
@@ -79,7 +80,7 @@ answer : answer_of (events_of example_step root) ≡ record { chains = ((1 ∷ [
 answer = refl
 
 -- so a leaf of the answer has the point
-covered : SomeOf (λ (chain : List ℕ × ℕ). IsThirty chain.1) (answer_of (events_of example_step root)).chains
+covered : Any (λ (chain : List ℕ × ℕ). IsThirty chain.1) (answer_of (events_of example_step root)).chains
 covered = answers_cover_the_root example_step IsAny IsAny HasPoint IsThirty keeps_law loses_none root tt tt refl
 
 -- and each is a multiple of ten

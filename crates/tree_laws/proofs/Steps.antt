@@ -1,11 +1,11 @@
 -- Steps one after the other keep points, laws and what is emitted.
 use Rattle.std.proofs.Common.{◌≡◌, ◌<◌, ◌^◌, List, [], ◌∷◌, map, length, Option, Some, None, inl, inr, refl, sym, subst, arith}
-use Rattle.std.specs.List.{AllByRecursion}
+use Rattle.std.specs.List.{AllByRecursion, Any}
 use Rattle.std.proofs.lemmas.List.{length-map}
 use Rattle.split_paths.specs.declared.splitter.Step.{Step}
 use Rattle.split_paths.specs.declared.splitter.Step.TheVariants.{Gone, Emit, TooWide, Kids}
 use Rattle.split_paths.specs.Lawful.{IsLawfulStep}
-use Rattle.tree_laws.specs.Points.{SomeOf, IsKeptBy, IfEmitted}
+use Rattle.tree_laws.specs.Points.{IsKeptBy, IfEmitted}
 use Rattle.tree_laws.proofs.Some.{some_nowhere, some_first, some_right, some_cases}
 use Rattle.tree_laws.specs.Steps.{emitted_then, fitting_then, gives_way_to, with_each_kid}
 
@@ -22,7 +22,7 @@ emitted_kept P R S TooWide f kept each = tt
 emitted_kept P R S (Kids kids) f kept each = kept
 
 -- a point of one of those that it gives way to
-pub some_kept : {T L : Type 0} (P : T → Type 0) (R : L → Type 0) (kids : List T) → SomeOf P kids → IsKeptBy P R (gives_way_to kids)
+pub some_kept : {T L : Type 0} (P : T → Type 0) (R : L → Type 0) (kids : List T) → Any P kids → IsKeptBy P R (gives_way_to kids)
 some_kept P R [] some = some_nowhere P some
 some_kept P R (kid ∷ kids) some = some
 
@@ -39,7 +39,7 @@ nothing_emitted R [] = tt
 nothing_emitted R (kid ∷ kids) = tt
 
 -- a point of some child is one of what that child is changed to
-some_mapped : {T U : Type 0} (P : T → Type 0) (Q : U → Type 0) (g : T → U) → ((x : T) → P x → Q (g x)) → (kids : List T) → SomeOf P kids → SomeOf Q (map g kids)
+some_mapped : {T U : Type 0} (P : T → Type 0) (Q : U → Type 0) (g : T → U) → ((x : T) → P x → Q (g x)) → (kids : List T) → Any P kids → Any Q (map g kids)
 some_mapped P Q g each [] some = absurd (some_nowhere P some)
 some_mapped P Q g each (kid ∷ kids) some = elim (some_cases P kid kids some) [
   | inl here ↦ some_first Q (g kid) (map g kids) (each kid here)
