@@ -1,12 +1,12 @@
 -- A sum behind the word `nonzero` is a nonzero line, since tokens don't depend on their places.
-use Rattle.std.proofs.Common.{◌≡◌, ℕ, suc, ◌<◌, Bool, true, false, cond, eqb, List, [], ◌∷◌, ◌++◌, length, Option, Some, None, refl, sym, ap, ap₂, ◌∙◌, append_assoc}
+use Rattle.std.proofs.Common.{◌≡◌, ℕ, suc, Bool, true, false, cond, eqb, List, [], ◌∷◌, ◌++◌, Option, Some, None, refl, sym, ap, ap₂, ◌∙◌, append_assoc}
 use Rattle.std.proofs.lemmas.List.{map-append}
 use Rattle.std.specs.Prelude.{codes}
-use Rattle.polynomials.specs.Polynomials.{Polynomial, IsPolynomial}
+use Rattle.polynomials.specs.Polynomials.{Polynomial}
 use Rattle.system_text.specs.Characters.{is_letter, is_digit, is_name_character}
-use Rattle.system_text.specs.Tokens.{Token, Placed, Run, Opening, Name, Number, nothing, single, begun, sign_or_stray, opened, closed, extended, tokens_from, tokens, unplaced}
-use Rattle.system_text.specs.Sums.{Setting}
-use Rattle.system_text.specs.Systems.{SpellsSum, SpellsNonzero, AreNames}
+use Rattle.system_text.specs.Tokens.{Run, Opening, Name, Number, nothing, single, begun, sign_or_stray, opened, extended, tokens_from, unplaced}
+use Rattle.system_text.specs.Readings.{Setting}
+use Rattle.system_text.specs.Systems.{SpellsSum, SpellsNonzero}
 use Rattle.report_text.specs.Polynomials.{poly_text}
 use Rattle.report_text.specs.Laws.{SpellsOver, SpellsNonzeroOver, PrintedNonzeroLinesAreSpelled}
 use Rattle.report_text.proofs.Spelling.{printed_polynomials_are_spelled}

@@ -6,7 +6,7 @@ use Rattle.polynomials.specs.Polynomials.{Term, Polynomial, IsPolynomial}
 use Rattle.polynomials.specs.Views.{degree_in}
 use Rattle.polynomials.proofs.FitsLemmas.{is_exponent_list_iff}
 use Rattle.system_text.specs.Limits.{most_digits}
-use Rattle.system_text.specs.Sums.{Setting}
+use Rattle.system_text.specs.Readings.{Setting}
 use Rattle.system_text.specs.Systems.{SpellsSum}
 use Rattle.report_text.specs.Polynomials.{IsInLeast, poly_text}
 use Rattle.report_text.specs.Laws.{SpellsOver, PrintedPolynomialsAreSpelled}

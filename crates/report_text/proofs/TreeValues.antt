@@ -4,7 +4,8 @@ use Rattle.std.proofs.Math.Nat.{mod-eq_of_lt}
 use Rattle.std.proofs.lemmas.Bool.{eqb-true, eqb-false}
 use Rattle.std.proofs.lemmas.Fmt.{decimal_is_IsNumeral}
 use Rattle.std.specs.Fmt.{decimal}
-use Rattle.std.specs.List.{AllByRecursion}
+use Rattle.std.specs.List.{AllByRecursion, IsDistinct}
+use Rattle.std.specs.Str.{bytes_eq}
 use Rattle.polynomials.specs.Monomials.{Monomial, monomial_product, exponent_of}
 use Rattle.polynomials.specs.Polynomials.{term, Polynomial, IsPolynomial, with_first, sum_of, constant_of, variable_power}
 use Rattle.polynomials.specs.Polynomials as poly
@@ -13,8 +14,8 @@ use Rattle.polynomials.proofs.PolynomialLaws.{zero-sum_of}
 use Rattle.sparse_poly.proofs.Products.{IsPolynomial-append_left}
 use Rattle.sparse_poly.proofs.Moduli.{positive_modulus}
 use Rattle.system_text.specs.Limits.{text_width}
-use Rattle.system_text.specs.Sums.{Setting, place_of_name}
-use Rattle.system_text.specs.Systems.{AreDifferent}
+use Rattle.system_text.specs.Readings.{Setting}
+use Rattle.system_text.specs.Factors.{place_of_name}
 use Rattle.system_text.specs.Grammar.{Sum, TermTree, Factor, First, Added, Single, Multiplied, Bare, Raised, Numeral, Variable, of_both, of_one, variable_of, sum_value, term_value, factor_value}
 use Rattle.report_text.proofs.NamePlaces.{place_among}
 use Rattle.report_text.proofs.Terms.{all_zero}
@@ -74,7 +75,7 @@ module _ (s : Setting) (many : 1 < s.modulus) where
       ap (λ d. Some (with_first (term (replicate s.variables 0) d) [])) (ap (λ d. d % s.modulus) (decimal_is_IsNumeral c printed).1 ∙ mod-eq_of_lt below)
       ∙ ap Some (with_first_positive (replicate s.variables 0) c positive)
 
-  module _ (different : AreDifferent s.names) where
+  module _ (different : IsDistinct bytes_eq s.names) where
     -- the power of the variable at a place
     stand_value : (front : List (List ℕ)) (x : List ℕ) (xs : List (List ℕ)) (l : Monomial) (e : ℕ) (m : Monomial)
         → Stand s front (x ∷ xs) l (e ∷ m) → e ≢ 0 → factor_value s (power_tree x e) ≡ Some (variable_power s.variables (length l) e)
@@ -84,7 +85,7 @@ module _ (s : Setting) (many : 1 < s.modulus) where
         place : place_of_name 0 s.names x ≡ Some (length l)
         place =
             ap (λ names. place_of_name 0 names x) h.names
-            ∙ (place_among 0 front x xs (subst AreDifferent h.names different)
+            ∙ (place_among 0 front x xs (subst (IsDistinct bytes_eq) h.names different)
             ∙ (let same = h.places in ap Some (omega arith)))
 
     -- a term with one more power

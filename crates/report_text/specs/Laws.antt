@@ -6,7 +6,8 @@ use Rattle.polynomials.specs.Views.{degree_in}
 use Rattle.polynomials.specs.Fits.{most_exponent}
 use Rattle.system_text.specs.Laws.{IsNamedPolynomial}
 use Rattle.system_text.specs.Limits.{most_digits}
-use Rattle.system_text.specs.Sums.{Setting, read_sum}
+use Rattle.system_text.specs.Readings.{Setting}
+use Rattle.system_text.specs.Sums.{read_sum}
 use Rattle.system_text.specs.Lines.{is_nonzero_line, read_nonzero}
 use Rattle.system_text.specs.Systems.{SpellsSum, SpellsNonzero, AreNames}
 use Rattle.report_text.specs.Polynomials.{poly_text}

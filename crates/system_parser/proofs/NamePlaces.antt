@@ -1,11 +1,11 @@
 -- The place of a name among names.
 use Rattle.std.proofs.Common.{◌≡◌, ℕ, zero, suc, ◌+◌, Bool, true, false, cond, ◌||◌, List, [], ◌∷◌, drop, map, Option, Some, refl, sym, ap, ◌∙◌, arith, add-one}
-use Rattle.std.specs.List.{slice_get}
+use Rattle.std.proofs.lemmas.Cmp.{nat_list_eq_equiv}
+use Rattle.std.specs.List.{slice_get, list_any}
 use Rattle.std.specs.Option.{is_some}
 use Rattle.std.specs.Str.{bytes_eq}
 use Rattle.std.proofs.lemmas.Option.{same_Some}
-use Rattle.system_text.specs.Sums.{place_of_name}
-use Rattle.system_text.specs.Heads.{is_text_of}
+use Rattle.system_text.specs.Factors.{place_of_name}
 
 -- from the place i on, the item at i comes first
 pub drop_mapped : {A B : Type 0} (f : A → B) (xs : List A) (i : ℕ) (x : A) → slice_get xs i ≡ Some x → drop i (map f xs) ≡ f x ∷ drop (i + 1) (map f xs)
@@ -26,12 +26,12 @@ place_later names i name x all here other whole =
     ap (λ j. place_of_name j (drop (i + 1) names) x) (add-one i)
     ∙ (sym (ap (λ l. place_of_name i l x) here ∙ ap (λ t. cond t (Some i) (place_of_name (suc i) (drop (i + 1) names) x)) other) ∙ whole)
 
-found_by_test : (i : ℕ) (rest : Bool) (place : Option ℕ) (t : Bool) → is_some place ≡ rest → is_some (cond t (Some i) place) ≡ (t || rest)
-found_by_test i rest place true e = refl
-found_by_test i rest place false e = e
+found_by_test : (i : ℕ) (rest : Bool) (place : Option ℕ) (t u : Bool) → t ≡ u → is_some place ≡ rest → is_some (cond t (Some i) place) ≡ (u || rest)
+found_by_test i rest place true u same e = ap (λ b. b || rest) same
+found_by_test i rest place false u same e = e ∙ ap (λ b. b || rest) same
 
 -- a name has a place where it is one of them
-pub is_some-place_of_name : (i : ℕ) (names : List (List ℕ)) (x : List ℕ) → is_some (place_of_name i names x) ≡ is_text_of names x
+pub is_some-place_of_name : (i : ℕ) (names : List (List ℕ)) (x : List ℕ) → is_some (place_of_name i names x) ≡ list_any (bytes_eq x) names
 is_some-place_of_name i [] x = refl
 is_some-place_of_name i (name ∷ names) x =
-    found_by_test i (is_text_of names x) (place_of_name (suc i) names x) (bytes_eq name x) (is_some-place_of_name (suc i) names x)
+    found_by_test i (list_any (bytes_eq x) names) (place_of_name (suc i) names x) (bytes_eq name x) (bytes_eq x name) (nat_list_eq_equiv.symm name x) (is_some-place_of_name (suc i) names x)

@@ -1,19 +1,20 @@
 -- One more name of an order line.
 use Rattle.std.proofs.Common.{◌≡◌, ℕ, ◌<◌, ◌≤◌, true, false, cond, leb, eqb, ◌&&◌, ◌||◌, inl, inr, List, [], ◌∷◌, ◌++◌, length, Ok, Err, Result, ap, ◌∙◌, arith}
-use Rattle.std.specs.List.{AllByRecursion}
+use Rattle.std.specs.List.{AllByRecursion, list_any}
+use Rattle.std.specs.Str.{bytes_eq}
 use Rattle.std.proofs.lemmas.Bool.{and_parts, leb-true, eqb-true, or_cases}
 use Rattle.std.proofs.lemmas.Bool.Decides.{leb_tells}
 use Rattle.system_text.specs.Characters.{is_letter, is_digit, is_name_character}
 use Rattle.system_text.specs.Tokens.{Placed, Name}
 use Rattle.system_text.specs.Faults.{Fault, fault}
-use Rattle.system_text.specs.Heads.{is_text_of, reserved_names, with_name}
+use Rattle.system_text.specs.Heads.{reserved_names, with_name}
 
 module _ (n : ℕ) (names : List (List ℕ)) (t : Placed) (x : List ℕ) where
   -- whether it is one of the names before it, where it isn't reserved and there is room
-  by_names : is_text_of reserved_names x ≡ false → length names < n → with_name n names t (Name x) ≡ cond (is_text_of names x) (Err (fault 6 t.first)) (Ok (names ++ x ∷ []))
+  by_names : list_any (bytes_eq x) reserved_names ≡ false → length names < n → with_name n names t (Name x) ≡ cond (list_any (bytes_eq x) names) (Err (fault 6 t.first)) (Ok (names ++ x ∷ []))
   by_names free room =
-      ap (λ b. cond b (Err (fault 4 t.first)) (cond (leb n (length names)) (Err (fault 5 t.first)) (cond (is_text_of names x) (Err (fault 6 t.first)) (Ok (names ++ x ∷ []))))) free
-      ∙ ap (λ b. cond {A = Result (List (List ℕ)) Fault} b (Err (fault 5 t.first)) (cond (is_text_of names x) (Err (fault 6 t.first)) (Ok (names ++ x ∷ [])))) (lt-leb_false room)
+      ap (λ b. cond b (Err (fault 4 t.first)) (cond (leb n (length names)) (Err (fault 5 t.first)) (cond (list_any (bytes_eq x) names) (Err (fault 6 t.first)) (Ok (names ++ x ∷ []))))) free
+      ∙ ap (λ b. cond {A = Result (List (List ℕ)) Fault} b (Err (fault 5 t.first)) (cond (list_any (bytes_eq x) names) (Err (fault 6 t.first)) (Ok (names ++ x ∷ [])))) (lt-leb_false room)
     where
       lt-leb_false : length names < n → leb n (length names) ≡ false
       lt-leb_false less = elim (leb_tells n (length names)) [
@@ -21,10 +22,10 @@ module _ (n : ℕ) (names : List (List ℕ)) (t : Placed) (x : List ℕ) where
         | inr h ↦ h.0
       ]
 
-  pub name_repeats : is_text_of reserved_names x ≡ false → length names < n → is_text_of names x ≡ true → with_name n names t (Name x) ≡ Err (fault 6 t.first)
+  pub name_repeats : list_any (bytes_eq x) reserved_names ≡ false → length names < n → list_any (bytes_eq x) names ≡ true → with_name n names t (Name x) ≡ Err (fault 6 t.first)
   name_repeats free room repeated = by_names free room ∙ ap (λ b. cond {A = Result (List (List ℕ)) Fault} b (Err (fault 6 t.first)) (Ok (names ++ x ∷ []))) repeated
 
-  pub name_is_new : is_text_of reserved_names x ≡ false → length names < n → is_text_of names x ≡ false → with_name n names t (Name x) ≡ Ok (names ++ x ∷ [])
+  pub name_is_new : list_any (bytes_eq x) reserved_names ≡ false → length names < n → list_any (bytes_eq x) names ≡ false → with_name n names t (Name x) ≡ Ok (names ++ x ∷ [])
   name_is_new free room new = by_names free room ∙ ap (λ b. cond {A = Result (List (List ℕ)) Fault} b (Err (fault 6 t.first)) (Ok (names ++ x ∷ []))) new
 
 -- names are written in ASCII

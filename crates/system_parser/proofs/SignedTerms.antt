@@ -12,7 +12,7 @@ use Rattle.polynomials.proofs.Canonical.{IsPolynomial-collected}
 use Rattle.polynomials.proofs.SamePolynomials.{same_from_sums, SameSums-from_one}
 use Rattle.sparse_poly.specs.Falling.{AreResidues}
 use Rattle.sparse_poly.proofs.Places.{drop_item}
-use Rattle.system_text.specs.Sums.{with_last}
+use Rattle.system_text.specs.Factors.{with_last}
 use Rattle.system_parser.specs.Sums.{negated_if, signed_terms}
 
 -- one term more was appended

@@ -4,7 +4,7 @@ use Rattle.std.specs.List.{AllByRecursion}
 use Rattle.mono_words.specs.declared.mono.TheConstants.{VARS}
 use Rattle.polynomials.specs.Polynomials.{Term, term, IsPolynomial, collected}
 use Rattle.sparse_poly.specs.Falling.{HaveVariables, AreResidues}
-use Rattle.system_text.specs.Sums.{Frame as TextFrame, Mode as TextMode, Reading as TextReading}
+use Rattle.system_text.specs.Readings.{Frame as TextFrame, Mode as TextMode, Reading as TextReading}
 use Rattle.system_parser.specs.declared.frames.Frame.{Frame}
 use Rattle.system_parser.specs.declared.sums.Mode.{Mode}
 use Rattle.system_parser.specs.declared.sums.Mode.TheVariants.{AtSum, AtFactor, AfterBase, AtExponent, AfterFactor}

@@ -7,7 +7,7 @@ use Rattle.mono_words.specs.declared.mono.TheConstants.{VARS}
 use Rattle.polynomials.specs.Polynomials.{ArePolynomials}
 use Rattle.sparse_poly.specs.declared.system.System.{System}
 use Rattle.system_text.specs.Lines.{TextSystem, Progress as TextProgress, setting_of, lines_of}
-use Rattle.system_text.specs.Sums.{Setting}
+use Rattle.system_text.specs.Readings.{Setting}
 use Rattle.system_parser.specs.declared.text.Progress.{Progress}
 use Rattle.system_parser.specs.declared.text.Progress.TheVariants.{AtPrime, AtOrder, AtSums}
 

@@ -1,9 +1,10 @@
 ghost use Rattle.std.specs.Prelude.{◌≡◌, ◌<◌, ◌≤◌, ◌++◌, List, [], ◌∷◌, length, IfOk, OnOk};
-ghost use Rattle.std.specs.List.{AllByRecursion};
+ghost use Rattle.std.specs.List.{AllByRecursion, list_any};
+ghost use Rattle.std.specs.Str.{bytes_eq};
 ghost use Rattle.std.specs.String.{string_bytes};
 ghost use Rattle.std.specs.Str.Parse.{AllDigits};
 ghost use Rattle.system_text.specs.Tokens.{Token as TextToken, Placed as TextPlaced};
-ghost use Rattle.system_text.specs.Heads.{after_word, word_first, prime_number, read_prime, with_name, read_order, names_from, is_text_of, reserved_names};
+ghost use Rattle.system_text.specs.Heads.{after_word, word_first, prime_number, read_prime, with_name, read_order, names_from, reserved_names};
 ghost use Rattle.system_parser.specs.Tokens.{token_of, placed_of, IsSpelled};
 ghost use Rattle.system_parser.specs.Readings.{GivesExactly, Gives};
 ghost use Rattle.system_parser.specs.Systems.{names_of};
@@ -168,9 +169,9 @@ fn check_name(names: &Names, t: &Placed<'_>, name: &[u8]) -> Result<(), Fault>
 
 /// Whether no variable has this name.
 fn is_reserved(name: &[u8]) -> bool
-    ensures { result ≡ is_text_of reserved_names name.now }
+    ensures { result ≡ list_any (bytes_eq name.now) reserved_names }
 {
-    b"prime".as_slice() == name || b"order".as_slice() == name || b"nonzero".as_slice() == name
+    name == b"prime".as_slice() || name == b"order".as_slice() || name == b"nonzero".as_slice()
 }
 
 /// A name as text.

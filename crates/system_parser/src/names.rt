@@ -1,5 +1,5 @@
 ghost use Rattle.std.specs.Prelude.{◌≡◌, ◌<◌, length, IfSome};
-ghost use Rattle.system_text.specs.Sums.{place_of_name};
+ghost use Rattle.system_text.specs.Factors.{place_of_name};
 ghost use Rattle.system_parser.specs.Systems.{names_of};
 
 use sparse_poly::Names;

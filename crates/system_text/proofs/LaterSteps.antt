@@ -7,7 +7,9 @@ use Rattle.polynomials.specs.Fits.{power_within}
 use Rattle.system_text.specs.Tokens.{Token, Placed, Number, Plus, Minus, Times, Power, Open, Close}
 use Rattle.system_text.specs.Faults.{Fault, fault}
 use Rattle.system_text.specs.Limits.{most_digits, most_power, text_width}
-use Rattle.system_text.specs.Sums.{Setting, Frame, Mode, Reading, AtSum, AtFactor, AfterBase, AtExponent, AfterFactor, with_factor, with_last, closed_at, after_factor, after_factor_at, after_base_token, power_factor, at_exponent, step_in, step}
+use Rattle.system_text.specs.Readings.{Setting, Frame, Mode, Reading, AtSum, AtFactor, AfterBase, AtExponent, AfterFactor}
+use Rattle.system_text.specs.Factors.{with_factor, with_last, after_factor_at, power_factor, at_exponent}
+use Rattle.system_text.specs.Sums.{closed_at, after_factor, after_base_token, step_in, step}
 use Rattle.system_text.specs.Grammar.{Sum, Bare, Raised, Parenthesis, sum_tokens, term_tokens, factor_tokens, base_tokens, of_one}
 use Rattle.system_text.proofs.PartialTrees.{Adding, TakingAway, before_tokens, factors_tokens, Part, outer_tokens, OuterMeans, Partial, EndsWithBase, EndsWithTerm, EndsWithSum, Means, ReadingMeans, term_from_factor, sum_from_term}
 use Rattle.system_text.proofs.Passed.{ok_after_test}

@@ -2,22 +2,25 @@
 use Rattle.std.proofs.Common.{◌≡◌, ◌≢◌, ℕ, ◌+◌, ◌≤◌, Bool, true, false, cond, leb, List, [], ◌∷◌, ◌++◌, length, map, Result, Ok, Err, refl, sym, ap, ◌∙◌, subst, append_assoc, append-nil, length-append, arith}
 use Rattle.std.proofs.lemmas.Bool.{leb-false, lt-leb}
 use Rattle.std.specs.Prelude.{codes}
-use Rattle.std.specs.List.{AllByRecursion}
+use Rattle.std.proofs.lemmas.Cmp.{nat_list_eq_equiv}
+use Rattle.std.proofs.lemmas.Map.Keys.{IsDistinct-push}
+use Rattle.std.specs.List.{AllByRecursion, IsDistinct, list_any}
+use Rattle.std.specs.Str.{bytes_eq}
 use Rattle.system_text.specs.Characters.{is_name}
 use Rattle.system_text.specs.Tokens.{Token, Placed, Name, tokens, unplaced}
 use Rattle.system_text.specs.Faults.{Fault, fault}
-use Rattle.system_text.specs.Heads.{is_text_of, reserved_names, word_first, with_name, names_end, names_from, and_then_read, read_order}
-use Rattle.system_text.specs.Systems.{AreDifferent, SpellsOrder}
+use Rattle.system_text.specs.Heads.{reserved_names, word_first, with_name, names_end, names_from, and_then_read, read_order}
+use Rattle.system_text.specs.Systems.{SpellsOrder}
 use Rattle.system_text.proofs.TokenTexts.{IsWellSpelled, AllByRecursion-append, AllByRecursion-parts, line_is_well_spelled}
-use Rattle.system_text.proofs.Lookups.{AreDifferent-push, different_from_front}
+use Rattle.system_text.proofs.Lookups.{different_from_front}
 use Rattle.system_text.proofs.Passed.{ok_after_test, both_read}
 use Rattle.system_text.proofs.HeadWords.{word_is_spelled, word_is_read}
 
 -- at most n different names, none of them reserved
 record MayStand (n : ℕ) (names : List (List ℕ)) : Type 0 where
   most : length names ≤ n
-  different : AreDifferent names
-  free : AllByRecursion (λ x. is_text_of reserved_names x ≡ false) names
+  different : IsDistinct bytes_eq names
+  free : AllByRecursion (λ x. list_any (bytes_eq x) reserved_names ≡ false) names
 
 -- what is read after these names
 record IsReadAfter (n : ℕ) (names : List (List ℕ)) (ts : List Placed) (result : List (List ℕ)) : Type 0 where
@@ -39,9 +42,9 @@ name_is_spelled n names t result h e = by_token t.token refl e
   where
     by_token : (x : Token) → t.token ≡ x → with_name n names t x ≡ Ok result → IsNameAfter n names t result
     by_token (Name x) d k =
-        let free = ok_after_test (is_text_of reserved_names x) (fault 4 t.first) (cond (leb n (length names)) (Err (fault 5 t.first)) (cond (is_text_of names x) (Err (fault 6 t.first)) (Ok (names ++ x ∷ [])))) result k in
-        let few = ok_after_test (leb n (length names)) (fault 5 t.first) (cond (is_text_of names x) (Err (fault 6 t.first)) (Ok (names ++ x ∷ []))) result free.1 in
-        let new = ok_after_test (is_text_of names x) (fault 6 t.first) (Ok (names ++ x ∷ [])) result few.1 in
+        let free = ok_after_test (list_any (bytes_eq x) reserved_names) (fault 4 t.first) (cond (leb n (length names)) (Err (fault 5 t.first)) (cond (list_any (bytes_eq x) names) (Err (fault 6 t.first)) (Ok (names ++ x ∷ [])))) result k in
+        let few = ok_after_test (leb n (length names)) (fault 5 t.first) (cond (list_any (bytes_eq x) names) (Err (fault 6 t.first)) (Ok (names ++ x ∷ []))) result free.1 in
+        let new = ok_after_test (list_any (bytes_eq x) names) (fault 6 t.first) (Ok (names ++ x ∷ [])) result few.1 in
         let same : names ++ x ∷ [] ≡ result = cc new.1 in
         let below = leb-false n (length names) few.0 in
         record {
@@ -50,8 +53,8 @@ name_is_spelled n names t result h e = by_token t.token refl e
           all = sym same;
           lawful = subst (MayStand n) same (record {
             most = omega (arith, length-append names (x ∷ []));
-            different = AreDifferent-push names x h.different new.0;
-            free = AllByRecursion-append (λ x. is_text_of reserved_names x ≡ false) names (x ∷ []) h.free (free.0, tt);
+            different = IsDistinct-push nat_list_eq_equiv names x h.different new.0;
+            free = AllByRecursion-append (λ x. list_any (bytes_eq x) reserved_names ≡ false) names (x ∷ []) h.free (free.0, tt);
           });
         }
     by_token Token.Plus d k = absurd cc
@@ -96,10 +99,10 @@ names_are_read n end names (y ∷ more) (t ∷ ts) e some h =
     let rest : unplaced ts ≡ map Name more = cc in
     let total = h.most in
     let long = length-append names (y ∷ more) in
-    let free = (AllByRecursion-parts (λ x. is_text_of reserved_names x ≡ false) names (y ∷ more) h.free).1.0 in
+    let free = (AllByRecursion-parts (λ x. list_any (bytes_eq x) reserved_names ≡ false) names (y ∷ more) h.free).1.0 in
     let few = lt-leb n (length names) (omega arith) in
     let new = different_from_front names y more h.different in
-    let first : with_name n names t t.token ≡ Ok (names ++ y ∷ []) = rw token (with_name_after n names t y (is_text_of reserved_names y) (leb n (length names)) (is_text_of names y) free few new) in
+    let first : with_name n names t t.token ≡ Ok (names ++ y ∷ []) = rw token (with_name_after n names t y (list_any (bytes_eq y) reserved_names) (leb n (length names)) (list_any (bytes_eq y) names) free few new) in
     let group = append_assoc names (y ∷ []) more in
     ap (λ a. elim a as (λ _. Result (List (List ℕ)) Fault) [ Ok more ↦ names_from n end more ts | Err e ↦ Err e ]) first
     ∙ names_are_read n end (names ++ y ∷ []) more ts rest (λ d. some (sym group ∙ d)) (subst (MayStand n) (sym group) h)
@@ -117,6 +120,7 @@ order_line_is_read n line names h =
     ∙ names_are_read n (length line + 1) [] names after.0 after.2 h.lawful.some (record { most = h.lawful.most; different = h.lawful.different; free = h.lawful.free })
 
 pub order_line_is_spelled : (n : ℕ) (line : List ℕ) (names : List (List ℕ)) → read_order n line ≡ Ok names → SpellsOrder n line names
+unfolding IsDistinct
 order_line_is_spelled n line names e =
     let parts = both_read (word_first 4 (codes "order") (length line + 1) (tokens line)) (names_from n (length line + 1) []) names e in
     let order = names_are_spelled n (length line + 1) [] parts.between names (record { most = omega arith; different = tt; free = tt }) parts.second in

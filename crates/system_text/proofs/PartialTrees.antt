@@ -5,7 +5,8 @@ use Rattle.polynomials.proofs.PolynomialLaws.{zero-sum_of}
 use Rattle.polynomials.proofs.Canonical.{IsPolynomial-negative_of}
 use Rattle.system_text.specs.Tokens.{Token, Plus, Minus, Times, Power, Open}
 use Rattle.system_text.specs.Limits.{most_depth}
-use Rattle.system_text.specs.Sums.{Setting, Frame, Mode, Reading, AtSum, AtFactor, AfterBase, AtExponent, AfterFactor, empty_frame, with_factor, with_last}
+use Rattle.system_text.specs.Readings.{Setting, Frame, Mode, Reading, AtSum, AtFactor, AfterBase, AtExponent, AfterFactor, empty_frame}
+use Rattle.system_text.specs.Factors.{with_factor, with_last}
 use Rattle.system_text.specs.Grammar.{Sum, TermTree, Factor, Base, First, FirstNegative, Added, TakenAway, Single, Multiplied, sum_tokens, term_tokens, factor_tokens, base_tokens, sum_value, term_value, factor_value, base_value, most_of, IsSumWithin, IsTermWithin, IsFactorWithin, IsBaseWithin}
 use Rattle.system_text.proofs.Values.{term_value_is_named}
 

@@ -6,7 +6,9 @@ use Rattle.polynomials.specs.Fits.{most_exponent, power_within}
 use Rattle.system_text.specs.Tokens.{Token, Placed, Name, Number, Plus, Minus, Times, Power, Open, Close, unplaced}
 use Rattle.system_text.specs.Faults.{Fault, fault}
 use Rattle.system_text.specs.Limits.{most_digits, most_depth, text_width}
-use Rattle.system_text.specs.Sums.{Setting, Frame, Mode, Reading, AtSum, AtFactor, AfterBase, AtExponent, AfterFactor, empty_frame, with_factor, after_base, at_factor, at_sum, variable_at, after_factor_at, closed_at, after_factor, after_base_token, power_factor, at_exponent, step_in, step, ended_bare, ended_in, line_ended, read_tokens}
+use Rattle.system_text.specs.Readings.{Setting, Frame, Mode, Reading, AtSum, AtFactor, AfterBase, AtExponent, AfterFactor, empty_frame}
+use Rattle.system_text.specs.Factors.{with_factor, after_base, at_factor, at_sum, variable_at, after_factor_at, power_factor, at_exponent}
+use Rattle.system_text.specs.Sums.{closed_at, after_factor, after_base_token, step_in, step, ended_bare, ended_in, line_ended, read_tokens}
 
 -- a token without a place
 abbrev pub bare : Token → Placed

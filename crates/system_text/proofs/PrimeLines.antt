@@ -1,15 +1,15 @@
 -- The prime line is read exactly where it spells a prime that is offered.
-use Rattle.std.proofs.Common.{◌≡◌, ◌⊎◌, ℕ, ◌+◌, ◌^◌, ◌<◌, ◌≤◌, Bool, true, false, cond, ltb, List, [], ◌∷◌, length, Ok, Err, refl, ap, ◌∙◌, subst, inl, inr, arith}
+use Rattle.std.proofs.Common.{◌≡◌, ◌⊎◌, ℕ, ◌+◌, ◌^◌, ◌<◌, ◌≤◌, Bool, true, false, cond, ltb, eqb, List, [], ◌∷◌, length, Ok, Err, refl, ap, ◌∙◌, subst, inl, inr, arith}
 use Rattle.std.proofs.Math.Nat.{pow-le-pow_right}
 use Rattle.std.proofs.lemmas.Bool.{le-ltb, cases_lt}
 use Rattle.std.specs.Prelude.{Contains, codes}
-use Rattle.std.specs.List.{AllByRecursion}
+use Rattle.std.specs.List.{AllByRecursion, list_any}
 use Rattle.std.specs.Str.Parse.{digits_value}
 use Rattle.polynomials.specs.Primes.{field_primes}
 use Rattle.system_text.specs.Tokens.{Token, Placed, Name, Number, tokens, unplaced}
 use Rattle.system_text.specs.Faults.{fault}
 use Rattle.system_text.specs.Limits.{most_digits}
-use Rattle.system_text.specs.Heads.{is_one_of, at_end, word_first, prime_number, prime_from, and_then_read, read_prime}
+use Rattle.system_text.specs.Heads.{at_end, word_first, prime_number, prime_from, and_then_read, read_prime}
 use Rattle.system_text.specs.Systems.{SpellsPrime}
 use Rattle.system_text.proofs.CharacterLemmas.{IsFull}
 use Rattle.system_text.proofs.TokenTexts.{IsWellSpelled, line_is_well_spelled}
@@ -38,8 +38,8 @@ prime_is_spelled end (t ∷ ts) p e = by_token t.token refl e
 
     by_token : (x : Token) → t.token ≡ x → prime_number t x ts ≡ Ok p → IsPrimeNumber (unplaced (t ∷ ts)) p
     by_token (Number digits) d k =
-        let few = ok_after_test (ltb most_digits (length digits)) (fault 9 t.first) (cond (is_one_of field_primes (digits_value 10 digits)) (at_end 2 (digits_value 10 digits) ts) (Err (fault 3 t.first))) p k in
-        let test = offered_then (is_one_of field_primes (digits_value 10 digits)) digits few.1 in
+        let few = ok_after_test (ltb most_digits (length digits)) (fault 9 t.first) (cond (list_any (eqb (digits_value 10 digits)) field_primes) (at_end 2 (digits_value 10 digits) ts) (Err (fault 3 t.first))) p k in
+        let test = offered_then (list_any (eqb (digits_value 10 digits)) field_primes) digits few.1 in
         let last = ends 2 (digits_value 10 digits) p ts test.1 in
         record {
           digits = digits;
@@ -68,7 +68,7 @@ prime_is_read end (t ∷ []) p digits e few value offered =
     let token : t.token ≡ Number digits = cc in
     let short = le-ltb most_digits (length digits) few in
     let found = test_from_contains field_primes p offered in
-    rw token (passed (ltb most_digits (length digits)) (is_one_of field_primes (digits_value 10 digits)) short (ap (is_one_of field_primes) value ∙ found))
+    rw token (passed (ltb most_digits (length digits)) (list_any (eqb (digits_value 10 digits)) field_primes) short (ap (λ n. list_any (eqb n) field_primes) value ∙ found))
   where
     passed : (b c : Bool) → b ≡ false → c ≡ true → cond b (Err (fault 9 t.first)) (cond c (Ok (digits_value 10 digits)) (Err (fault 3 t.first))) ≡ Ok p
     passed true c h i = absurd cc

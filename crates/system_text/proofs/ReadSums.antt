@@ -5,7 +5,9 @@ use Rattle.std.specs.Prelude.{drop, codes}
 use Rattle.polynomials.specs.Polynomials.{Polynomial}
 use Rattle.system_text.specs.Tokens.{Token, Placed, Name, tokens, unplaced}
 use Rattle.system_text.specs.Faults.{Fault}
-use Rattle.system_text.specs.Sums.{Setting, Frame, Mode, Reading, AtSum, AtFactor, AfterBase, AtExponent, AfterFactor, start, with_factor, with_last, step, ended_with, ended_bare, ended_in, read_tokens, read_sum}
+use Rattle.system_text.specs.Readings.{Setting, Frame, Mode, Reading, AtSum, AtFactor, AfterBase, AtExponent, AfterFactor, start}
+use Rattle.system_text.specs.Factors.{with_factor, with_last}
+use Rattle.system_text.specs.Sums.{step, ended_with, ended_bare, ended_in, read_tokens, read_sum}
 use Rattle.system_text.specs.Grammar.{Sum, sum_tokens, sum_value, IsSumWithin}
 use Rattle.system_text.specs.Lines.{is_nonzero_word, begin_with_nonzero, is_nonzero_line, read_nonzero}
 use Rattle.system_text.specs.Systems.{SpellsAfter, SpellsSum, SpellsNonzero, nonzero_word}

@@ -6,7 +6,7 @@ use Rattle.std.specs.List.{AllByRecursion}
 use Rattle.polynomials.specs.Polynomials.{Polynomial}
 use Rattle.polynomials.proofs.PrimeLemmas.{IsPrime-field_primes}
 use Rattle.system_text.specs.Tokens.{Token}
-use Rattle.system_text.specs.Sums.{Setting}
+use Rattle.system_text.specs.Readings.{Setting}
 use Rattle.system_text.specs.Lines.{is_nonzero_line, setting_of}
 use Rattle.system_text.specs.Systems.{SpellEach, nonzero_word}
 use Rattle.system_text.specs.Laws.{AreNamedPolynomials, WhatIsReadIsASystem}

@@ -7,7 +7,9 @@ use Rattle.polynomials.specs.Fits.{most_exponent, power_within}
 use Rattle.system_text.specs.Tokens.{Token, Name, Number, Plus, Minus, Times, Power, Open, Close}
 use Rattle.system_text.specs.Faults.{Fault, fault}
 use Rattle.system_text.specs.Limits.{most_digits, most_power, most_depth, text_width}
-use Rattle.system_text.specs.Sums.{Setting, Frame, Mode, Reading, AtSum, AtFactor, AfterBase, AfterFactor, empty_frame, with_factor, with_last, after_base, power_factor, read_tokens}
+use Rattle.system_text.specs.Readings.{Setting, Frame, Mode, Reading, AtSum, AtFactor, AfterBase, AfterFactor, empty_frame}
+use Rattle.system_text.specs.Factors.{with_factor, with_last, after_base, power_factor}
+use Rattle.system_text.specs.Sums.{read_tokens}
 use Rattle.system_text.proofs.Places.{bare}
 
 -- the reading of a frame in these frames, in this mode
@@ -34,12 +36,6 @@ pub ends_factor : (xs : List Token) → EndsTerm xs → EndsFactor xs
 ends_factor (Power ∷ xs) h = absurd h
 ends_factor [] h = tt
 ends_factor (_ ∷ xs) h = tt
-
--- nor another term
-abbrev pub EndsSum : List Token → Type 0
-EndsSum [] = Unit {0}
-EndsSum (Close ∷ xs) = Unit {0}
-EndsSum _ = ⊥
 
 -- a factor may begin with the first of them
 abbrev pub BeginsFactor : List Token → Type 0

@@ -7,7 +7,8 @@ use Rattle.polynomials.specs.Fits.{most_exponent}
 use Rattle.system_text.specs.Tokens.{Token, Placed, Name, Number, Minus, Open}
 use Rattle.system_text.specs.Faults.{Fault, fault}
 use Rattle.system_text.specs.Limits.{most_digits, most_depth}
-use Rattle.system_text.specs.Sums.{Setting, Frame, Reading, AtSum, AtFactor, AfterBase, empty_frame, place_of_name, after_base, variable_at, number_base, opened_at, at_factor, at_sum}
+use Rattle.system_text.specs.Readings.{Setting, Frame, Reading, AtSum, AtFactor, AfterBase, empty_frame}
+use Rattle.system_text.specs.Factors.{place_of_name, after_base, variable_at, number_base, opened_at, at_factor, at_sum}
 use Rattle.system_text.specs.Grammar.{Base, Numeral, Variable, variable_of, base_tokens, base_value, most_of}
 use Rattle.system_text.proofs.PartialTrees.{Beginning, Negative, before_tokens, factors_tokens, outer_tokens, Partial, EndsOpen, ReadingMeans}
 use Rattle.system_text.proofs.Passed.{ok_after_test}
@@ -39,10 +40,6 @@ module _ (s : Setting) where
   }
 
   module _ (xs : List Token) (outer : List Frame) (frame : Frame) (t : Placed) where
-    -- after a base of one token
-    base_means : (x : Token) (base : Base) (f : Polynomial) (most : ℕ) → Partial s xs outer frame [] → base_tokens base ≡ x ∷ [] → base_value s base ≡ Some f → most ≡ most_of base → Partial s (xs ++ x ∷ []) outer frame (base_tokens base ++ [])
-    base_means x base f most h e v m = subst (Partial s (xs ++ x ∷ []) outer frame) (sym (ap (λ ys. ys ++ []) e)) (further xs outer frame [] x h)
-
     name_means : (x : List ℕ) (place : Option ℕ) (next : Reading) → place_of_name 0 s.names x ≡ place → Partial s xs outer frame [] → variable_at s outer frame t place ≡ Ok next → ReadingMeans s (xs ++ Name x ∷ []) next
     name_means x None next d h e = absurd cc
     name_means x (Some v) next d h e = at_next (xs ++ Name x ∷ []) (record { outer = outer; frame = frame; mode = AfterBase (variable_power s.variables v 1) t.last most_exponent }) next (record {

@@ -6,7 +6,8 @@ use Rattle.polynomials.specs.Primes.{field_primes}
 use Rattle.polynomials.specs.Polynomials.{Polynomial}
 use Rattle.polynomials.proofs.PrimeLemmas.{IsPrime-field_primes}
 use Rattle.system_text.specs.Tokens.{Token, Name, Number}
-use Rattle.system_text.specs.Sums.{Setting, read_sum}
+use Rattle.system_text.specs.Readings.{Setting}
+use Rattle.system_text.specs.Sums.{read_sum}
 use Rattle.system_text.specs.Grammar.{sum_tokens}
 use Rattle.system_text.specs.Heads.{read_prime, read_order, and_then_read}
 use Rattle.system_text.specs.Lines.{is_skipped, TextSystem, Progress, AtPrime, AtOrder, AtSums, setting_of, with_input, with_nonzero_polynomial, empty_system, is_nonzero_line, read_nonzero, read_polynomial, read_content}

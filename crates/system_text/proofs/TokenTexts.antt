@@ -43,10 +43,6 @@ sound_token : (r : Run) → IsSound r → IsWellSpelled (r.make r.bytes)
 sound_token r (inl h) = subst (λ make. IsWellSpelled (make r.bytes)) (sym h.0) h.2
 sound_token r (inr h) = subst (λ make. IsWellSpelled (make r.bytes)) (sym h.0) (inr h.2)
 
-sound_text : (r : Run) → IsSound r → IsText (r.make r.bytes)
-sound_text r (inl h) = subst (λ make. IsText (make r.bytes)) (sym h.0) tt
-sound_text r (inr h) = subst (λ make. IsText (make r.bytes)) (sym h.0) tt
-
 sound_extended : (r : Run) (b : ℕ) → IsSound r → r.goes_on b ≡ true → IsSound (extended r b)
 sound_extended r b (inl h) e = inl (h.0, h.1, is_name-push r.bytes b (subst (λ goes_on. goes_on b ≡ true) h.1 e) h.2)
 sound_extended r b (inr h) e = inr (h.0, h.1, IsFull-push r.bytes b h.2)

@@ -6,7 +6,8 @@ use Rattle.polynomials.specs.Fits.{most_exponent, product_within, power_within}
 use Rattle.polynomials.proofs.PolynomialLaws.{zero-sum_of}
 use Rattle.system_text.specs.Tokens.{Token, Name, Number, Plus, Minus, Times, Power, Open, Close}
 use Rattle.system_text.specs.Limits.{most_power, text_width}
-use Rattle.system_text.specs.Sums.{Setting, Frame, AtSum, AtFactor, AfterBase, AfterFactor, empty_frame, place_of_name, with_factor, with_last, start, variable_at}
+use Rattle.system_text.specs.Readings.{Setting, Frame, AtSum, AtFactor, AfterBase, AfterFactor, empty_frame, start}
+use Rattle.system_text.specs.Factors.{place_of_name, with_factor, with_last, variable_at}
 use Rattle.system_text.specs.Grammar.{Sum, TermTree, Factor, Base, First, FirstNegative, Added, TakenAway, Single, Multiplied, Bare, Raised, Numeral, Variable, Parenthesis, variable_of, sum_tokens, term_tokens, factor_tokens, base_tokens, sum_value, term_value, factor_value, base_value, most_of, IsSumWithin, IsTermWithin, IsFactorWithin, IsBaseWithin}
 use Rattle.system_text.proofs.Values.{of_both_parts, of_one_parts, IsNamed, sum_value_is_named}
 use Rattle.system_text.proofs.Places.{bare}

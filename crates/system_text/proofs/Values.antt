@@ -13,7 +13,8 @@ use Rattle.polynomials.proofs.Degrees.{degree_in-negative_of}
 use Rattle.polynomials.proofs.DegreesOfProducts.{sum_is_free, product_is_free}
 use Rattle.polynomials.proofs.FitsLemmas.{product_within_is}
 use Rattle.system_text.specs.Limits.{text_width}
-use Rattle.system_text.specs.Sums.{Setting, place_of_name}
+use Rattle.system_text.specs.Readings.{Setting}
+use Rattle.system_text.specs.Factors.{place_of_name}
 use Rattle.system_text.specs.Grammar.{Sum, TermTree, Factor, Base, First, FirstNegative, Added, TakenAway, Single, Multiplied, Bare, Raised, Numeral, Variable, Parenthesis, of_both, of_one, variable_of, sum_value, term_value, factor_value, base_value}
 use Rattle.system_text.specs.Laws.{IsNamedPolynomial}
 

@@ -5,7 +5,8 @@ use Rattle.polynomials.specs.Polynomials.{Polynomial, sum_of, difference_of, neg
 use Rattle.polynomials.specs.Fits.{most_exponent, product_within, power_within}
 use Rattle.system_text.specs.Tokens.{Token, Name, Number}
 use Rattle.system_text.specs.Limits.{most_digits, most_power, most_depth, text_width}
-use Rattle.system_text.specs.Sums.{Setting, place_of_name}
+use Rattle.system_text.specs.Readings.{Setting}
+use Rattle.system_text.specs.Factors.{place_of_name}
 
 mutual
   -- terms that are added or taken away, the first with a sign before it or not

@@ -1,21 +1,12 @@
 -- How the prime line and the order line are read.
-use Rattle.std.specs.Prelude.{ℕ, ◌+◌, ltb, leb, eqb, Bool, false, cond, ◌||◌, List, [], ◌∷◌, ◌++◌, length, Result, Ok, Err, codes}
+use Rattle.std.specs.Prelude.{ℕ, ◌+◌, ltb, leb, eqb, cond, List, [], ◌∷◌, ◌++◌, length, Result, Ok, Err, codes}
+use Rattle.std.specs.List.{list_any}
 use Rattle.std.specs.Str.{bytes_eq}
 use Rattle.std.specs.Str.Parse.{digits_value}
 use Rattle.polynomials.specs.Primes.{field_primes}
 use Rattle.system_text.specs.Tokens.{Token, Placed, Name, Number, tokens}
 use Rattle.system_text.specs.Faults.{Fault, fault, misplaced}
 use Rattle.system_text.specs.Limits.{most_digits}
-
--- the number is one of these
-abbrev pub is_one_of : List ℕ → ℕ → Bool
-is_one_of [] x = false
-is_one_of (y ∷ ys) x = eqb y x || is_one_of ys x
-
--- the text is one of these
-abbrev pub is_text_of : List (List ℕ) → List ℕ → Bool
-is_text_of [] x = false
-is_text_of (y ∷ ys) x = bytes_eq y x || is_text_of ys x
 
 -- the names that no variable has
 abbrev pub reserved_names : List (List ℕ)
@@ -39,7 +30,7 @@ word_first number word end (t ∷ ts) = after_word number word t t.token ts
 abbrev pub prime_number : Placed → Token → List Placed → Result ℕ Fault
 prime_number t (Number digits) ts =
     cond (ltb most_digits (length digits)) (Err (fault 9 t.first))
-    (cond (is_one_of field_primes (digits_value 10 digits))
+    (cond (list_any (eqb (digits_value 10 digits)) field_primes)
     (at_end 2 (digits_value 10 digits) ts)
     (Err (fault 3 t.first)))
 prime_number t _ ts = Err (misplaced 2 t)
@@ -62,9 +53,9 @@ read_prime line =
 -- one more name of the order line, where at most n may stand in it
 abbrev pub with_name : ℕ → List (List ℕ) → Placed → Token → Result (List (List ℕ)) Fault
 with_name n names t (Name x) =
-    cond (is_text_of reserved_names x) (Err (fault 4 t.first))
+    cond (list_any (bytes_eq x) reserved_names) (Err (fault 4 t.first))
     (cond (leb n (length names)) (Err (fault 5 t.first))
-    (cond (is_text_of names x) (Err (fault 6 t.first)) (Ok (names ++ x ∷ []))))
+    (cond (list_any (bytes_eq x) names) (Err (fault 6 t.first)) (Ok (names ++ x ∷ []))))
 with_name n names t _ = Err (misplaced 4 t)
 
 -- the line ends after these names

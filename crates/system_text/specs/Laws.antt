@@ -3,7 +3,8 @@ use Rattle.std.specs.Prelude.{◌≡◌, ◌↔◌, ℕ, ◌<◌, ◌≤◌, Lis
 use Rattle.polynomials.specs.Primes.{field_primes}
 use Rattle.polynomials.specs.Polynomials.{Polynomial, IsPolynomial}
 use Rattle.polynomials.specs.Views.{IsFreeOf}
-use Rattle.system_text.specs.Sums.{Setting, read_sum}
+use Rattle.system_text.specs.Readings.{Setting}
+use Rattle.system_text.specs.Sums.{read_sum}
 use Rattle.system_text.specs.Lines.{TextSystem, is_nonzero_line, read_nonzero, read_text}
 use Rattle.system_text.specs.Systems.{SpellsSum, SpellsNonzero, IsSystemText, AreNames}
 

@@ -2,6 +2,8 @@ pub mod Characters
 pub mod Tokens
 pub mod Faults
 pub mod Limits
+pub mod Readings
+pub mod Factors
 pub mod Sums
 pub mod Grammar
 pub mod Heads

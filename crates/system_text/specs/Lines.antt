@@ -7,7 +7,8 @@ use Rattle.polynomials.specs.Polynomials.{Polynomial}
 use Rattle.system_text.specs.Characters.{is_character}
 use Rattle.system_text.specs.Tokens.{Token, Name, tokens, unplaced}
 use Rattle.system_text.specs.Faults.{Fault, Refusal, fault}
-use Rattle.system_text.specs.Sums.{Setting, start, read_tokens, read_sum}
+use Rattle.system_text.specs.Readings.{Setting, start}
+use Rattle.system_text.specs.Sums.{read_tokens, read_sum}
 use Rattle.system_text.specs.Heads.{and_then_read, read_prime, read_order}
 
 -- the lines of a text: what stands between line feeds

@@ -1,14 +1,15 @@
 -- What a system text is, by its grammar.
 use Rattle.std.specs.Prelude.{◌≡◌, ◌≢◌, ◌⊎◌, ℕ, ◌≤◌, true, false, not, List, [], ◌∷◌, ◌++◌, length, map, filter, Some, Contains, codes, IsTrue}
-use Rattle.std.specs.List.{AllByRecursion}
+use Rattle.std.specs.List.{AllByRecursion, IsDistinct, list_any}
+use Rattle.std.specs.Str.{bytes_eq}
 use Rattle.std.specs.Str.Parse.{digits_value}
 use Rattle.polynomials.specs.Primes.{field_primes}
 use Rattle.polynomials.specs.Polynomials.{Polynomial}
 use Rattle.system_text.specs.Characters.{is_character, is_name}
 use Rattle.system_text.specs.Tokens.{Token, Name, Number, tokens, unplaced}
-use Rattle.system_text.specs.Sums.{Setting}
+use Rattle.system_text.specs.Readings.{Setting}
 use Rattle.system_text.specs.Grammar.{Sum, sum_tokens, sum_value, IsSumWithin}
-use Rattle.system_text.specs.Heads.{is_text_of, reserved_names}
+use Rattle.system_text.specs.Heads.{reserved_names}
 use Rattle.system_text.specs.Lines.{lines_of, is_skipped, is_nonzero_line, TextSystem, setting_of}
 
 -- the line has these tokens
@@ -48,17 +49,12 @@ pub record SpellsPrime (line : List ℕ) (p : ℕ) : Type 0 where
   pub value : digits_value 10 digits ≡ p
   pub offered : Contains field_primes p
 
--- no two of them are the same
-abbrev pub AreDifferent : List (List ℕ) → Type 0
-AreDifferent [] = Unit {0}
-AreDifferent (x ∷ xs) = (is_text_of xs x ≡ false) × AreDifferent xs
-
 -- one to n different names, none of them reserved, each spelled as names are
 pub record AreNames (n : ℕ) (names : List (List ℕ)) : Type 0 where
   pub some : names ≢ []
   pub most : length names ≤ n
-  pub different : AreDifferent names
-  pub free : AllByRecursion (λ x. is_text_of reserved_names x ≡ false) names
+  pub different : IsDistinct bytes_eq names
+  pub free : AllByRecursion (λ x. list_any (bytes_eq x) reserved_names ≡ false) names
   pub spelled : AllByRecursion (λ x. is_name x ≡ true) names
 
 -- the line is `order` and these names

@@ -2,7 +2,7 @@
 use Rattle.std.proofs.Common.{sym, ◌∙◌, ap}
 use Rattle.std.specs.String.{string_bytes}
 use Rattle.std.specs.Str.{bytes_eq}
-use Rattle.system_text.specs.Sums.{place_of_name}
+use Rattle.system_text.specs.Factors.{place_of_name}
 use Rattle.system_parser.specs.Systems.{names_of}
 use Rattle.system_parser.proofs.NamePlaces.{drop_mapped, place_here, place_later}
 use Rattle.system_parser.proofs.names.place_of.Goals as goal

@@ -1,6 +1,6 @@
 -- The first place among the names that are left.
 use Rattle.std.proofs.Common.{◌≡◌, drop}
-use Rattle.system_text.specs.Sums.{place_of_name}
+use Rattle.system_text.specs.Factors.{place_of_name}
 use Rattle.system_parser.specs.Systems.{names_of}
 use Rattle.system_parser.proofs.names.place_of.Given as goal
 
