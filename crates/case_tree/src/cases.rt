@@ -1,4 +1,5 @@
-ghost use Rattle.std.specs.Prelude.{◌≡◌, ◌≤◌, ◌<◌, ℕ, IfOk, Contains};
+ghost use Rattle.std.specs.Prelude.{◌≡◌, ◌≤◌, ℕ, IfOk, Contains};
+ghost use Rattle.polynomials.specs.Monomials.{most_exponent};
 ghost use Rattle.polynomials.specs.Polynomials.{Polynomial};
 ghost use Rattle.polynomials.specs.Views.{degree_in};
 ghost use Rattle.system_text.specs.Laws.{IsSystem};
@@ -12,7 +13,7 @@ use crate::root::root_of;
 use chains::{Chain, Task};
 use intersect::impose;
 use mono_words::VARS;
-use sparse_poly::{Poly, Polys, System, Work};
+use sparse_poly::{Polys, System, Work};
 use split_paths::{Splitter, Step};
 use std::alloc::{AllocError, Global};
 use std::marker::Model;
@@ -44,10 +45,9 @@ impl Cases {
         ensures system { result.system ≡ text_system_of system }
         ensures width { result.width ≡ width }
     {
-        // Tells that the modulus is prime.
-        let _ = system.field.prime();
-        tell_degrees(&system.inputs);
-        tell_degrees(&system.nonzero);
+        system.field.facts();
+        facts_of(&system.inputs);
+        facts_of(&system.nonzero);
         Cases { system, width }
     }
 
@@ -81,21 +81,12 @@ impl Cases {
     }
 }
 
-/// Tells that exponents have 16 bits.
-fn tell_degrees(list: &Polys)
-    ensures { (f : Polynomial) → Contains list.now f → (v : ℕ) → v < VARS → degree_in v f ≤ 65535 }
+/// Does nothing: its clause tells what `Poly::facts` does, of each polynomial.
+fn facts_of(list: &Polys)
+    ensures { (f : Polynomial) → Contains list.now f → (v : ℕ) → degree_in v f ≤ most_exponent }
 {
     for i in 0..list.count() {
-        tell_degrees_of(list.at(i));
-    }
-}
-
-/// Tells the same of one polynomial.
-fn tell_degrees_of(f: &Poly)
-    ensures { (v : ℕ) → v < VARS → degree_in v f.now ≤ 65535 }
-{
-    for v in 0..VARS {
-        let _ = f.degree_in(v);
+        list.at(i).facts();
     }
 }
 

@@ -25,7 +25,7 @@ pub fn finish(
     ensures { IfOk result (λ made. (nonzero : List Polynomial) → made ≡ finish_step VARS w.now.width
         (record { prime = w.now.field; inputs = inputs.now; nonzero = nonzero }) task) }
 {
-    match has_zero_remainder(alloc, w, task.nonzero.polys(), task.chain.polys())? {
+    match has_zero_remainder(w, task.nonzero.polys(), task.chain.polys())? {
         None => Ok(Step::TooWide),
         Some(true) => Ok(Step::Gone),
         Some(false) => finish_inputs(alloc, w, inputs, task),
@@ -46,7 +46,7 @@ fn finish_inputs(
     ensures { IfOk result (λ made. made ≡ step_by_remainder w.now.field VARS w.now.width task.chain
         task.nonzero (first_remainder w.now.field VARS w.now.width task.chain inputs.now)) }
 {
-    match first_remainder(alloc, w, inputs, task.chain.polys())? {
+    match first_remainder(w, inputs, task.chain.polys())? {
         None => Ok(Step::TooWide),
         Some(None) => Ok(Step::Emit(emitted(task))),
         Some(Some(remainder)) => Ok(Step::Kids(imposing(alloc, task, remainder)?)),
@@ -88,12 +88,7 @@ fn imposing(alloc: Global, task: Task, remainder: Poly) -> Result<Tasks<Task>, A
 }
 
 /// Whether one of the list reduces to 0 by the chain; `None` where a product doesn't fit.
-fn has_zero_remainder(
-    alloc: Global,
-    w: &Work,
-    list: &Polys,
-    chain: &Polys,
-) -> Result<Option<bool>, AllocError>
+fn has_zero_remainder(w: &Work, list: &Polys, chain: &Polys) -> Result<Option<bool>, AllocError>
     requires list { ArePolynomials w.now.field VARS list.now }
     requires chain { ArePolynomials w.now.field VARS chain.now }
     requires triangular { IsTriangular chain.now }
@@ -101,7 +96,7 @@ fn has_zero_remainder(
         ≡ has_zero_remainder w.now.field VARS w.now.width chain.now list.now) }
 {
     for i in 0..list.count() {
-        match reduce(alloc, *w, list.at(i), chain)? {
+        match reduce(*w, list.at(i), chain)? {
             None => return Ok(None),
             Some(remainder) => {
                 if remainder.is_zero() {
@@ -115,7 +110,6 @@ fn has_zero_remainder(
 
 /// The first remainder of the inputs by the chain that isn't 0; `None` where a product doesn't fit.
 fn first_remainder(
-    alloc: Global,
     w: &Work,
     inputs: &Polys,
     chain: &Polys,
@@ -127,7 +121,7 @@ fn first_remainder(
         ≡ first_remainder w.now.field VARS w.now.width chain.now inputs.now) }
 {
     for i in 0..inputs.count() {
-        match reduce(alloc, *w, inputs.at(i), chain)? {
+        match reduce(*w, inputs.at(i), chain)? {
             None => return Ok(None),
             Some(remainder) => {
                 if !remainder.is_zero() {

@@ -30,8 +30,7 @@ fn root_at_zero(alloc: Global, system: &System) -> Result<Task, AllocError>
     ensures { IfOk result (λ task. task
         ≡ root_by_zero VARS (polynomial_system_of (text_system_of system.now)) true) }
 {
-    // Tells that the modulus is at least 2.
-    let _ = system.field.prime();
+    system.field.facts();
     let mut one = Polys::new(alloc);
     one.push(Poly::constant(alloc, system.field, 1)?)?;
     Ok(Task {

@@ -141,6 +141,30 @@ fn a_remainder_is_imposed_on_the_same_chain(rt: HostRuntime) -> Result<(), Fail>
     Ok(())
 }
 
+#[test]
+fn a_root_keeps_what_must_not_vanish(rt: HostRuntime) -> Result<(), Fail> {
+    let alloc = rt.alloc();
+    for (text, imposed, kept) in [
+        // A constant says nothing.
+        (b"prime 5\norder x y\nx*y\nnonzero 3\n".as_slice(), 1, 0),
+        // 2*x and x are one.
+        (
+            b"prime 5\norder x y\nx*y\nnonzero 2*x\nnonzero x\nnonzero y\n",
+            1,
+            2,
+        ),
+        // 1 is imposed before the input.
+        (b"prime 5\norder x y\nx*y\nnonzero x\nnonzero 0\n", 2, 0),
+    ] {
+        assert!(rt; text.len() <= 1_048_576);
+        let cases = Cases::new(parse(alloc, text)?, 10);
+        let root = cases.root(alloc)?;
+        assert_eq!(rt; root.queue.count(), imposed);
+        assert_eq!(rt; root.nonzero.polys().count(), kept);
+    }
+    Ok(())
+}
+
 fn is_sent<T: Send>(_: &T) {}
 
 fn is_shared<T: Sync>(_: &T) {}

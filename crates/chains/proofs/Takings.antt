@@ -1,7 +1,6 @@
 -- Lists of which some items are taken, in order, and members that are looked for.
-use Rattle.std.proofs.Common.{◌≡◌, ℕ, ◌+◌, ◌≤◌, List, [], ◌∷◌, ◌++◌, length, drop, append_assoc, append-nil, Some, sym, ap, ◌∙◌}
+use Rattle.std.proofs.Common.{◌≡◌, ℕ, ◌+◌, List, [], ◌∷◌, ◌++◌, drop, append_assoc, Some, sym, ap, ◌∙◌}
 use Rattle.std.specs.Prelude.{slice_get}
-use Rattle.std.proofs.Math.ListN.{drop_of_length-le}
 use Rattle.item_lists.proofs.Places.{drop_at}
 
 module _ {X : Type 0} (taken : List X → List X) (all : List X) (xs out : List X) (i : ℕ) where
@@ -13,15 +12,7 @@ module _ {X : Type 0} (taken : List X → List X) (all : List X) (xs out : List 
   pub takes_none : (same_out : List X) (x : X) → slice_get xs i ≡ Some x → taken (x ∷ drop (i + 1) xs) ≡ taken (drop (i + 1) xs) → same_out ≡ out → out ++ taken (drop i xs) ≡ all → same_out ++ taken (drop (i + 1) xs) ≡ all
   takes_none same_out x at passes is whole = ap (λ zs. zs ++ taken (drop (i + 1) xs)) is ∙ ap (λ zs. out ++ zs) (sym (ap taken (drop_at xs i x at) ∙ passes)) ∙ whole
 
-  -- at the end all are taken
-  pub takes_all : taken [] ≡ [] → length xs ≤ i → out ++ taken (drop i xs) ≡ all → out ≡ all
-  takes_all none end whole = sym (append-nil out) ∙ sym (ap (λ zs. out ++ zs) (ap taken (drop_of_length-le xs end) ∙ none)) ∙ whole
-
 module _ {X Y : Type 0} (look : List X → Y) (xs : List X) (i : ℕ) where
   -- what is looked for from a place on
   pub looks_on : (x : X) (y : Y) → slice_get xs i ≡ Some x → look (x ∷ drop (i + 1) xs) ≡ y → look (drop i xs) ≡ look xs → y ≡ look xs
   looks_on x y at here whole = sym here ∙ sym (ap look (drop_at xs i x at)) ∙ whole
-
-  -- at the end
-  pub looks_end : length xs ≤ i → look (drop i xs) ≡ look xs → look [] ≡ look xs
-  looks_end end whole = sym (ap look (drop_of_length-le xs end)) ∙ whole

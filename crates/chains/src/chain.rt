@@ -4,9 +4,9 @@ ghost use Rattle.polynomials.specs.Views.{initial_of};
 ghost use Rattle.zero_sets.specs.ZeroSets.{IsTriangular, member_in, members_below};
 ghost use Rattle.chains.specs.Members.{with_polynomial, ChangesOne, IsNewMember, LowersMember};
 
-use crate::lists::{copied, copied_below, copied_with, is_at};
+use crate::lists::{copied_below, copied_with, is_at};
 use crate::moves::moved_with;
-use sparse_poly::{Poly, Polys};
+use sparse_poly::{Poly, Polys, copied};
 use std::alloc::{AllocError, Global};
 use std::marker::Model;
 
@@ -46,6 +46,13 @@ impl Chain {
         &self.polys
     }
 
+    /// Does nothing: its clause tells what every chain is, where no polynomial is wanted.
+    pub fn facts(&self)
+        ensures triangular { IsTriangular self.now }
+    {
+        let _ = &self.polys;
+    }
+
     /// The polynomial with the main variable `v`.
     pub fn at(&self, v: usize) -> Option<&Poly>
         ensures { option_copied result ≡ member_in v self.now }
@@ -74,8 +81,7 @@ impl Chain {
         match self.at(v) {
             None => unreachable!(),
             Some(t) => {
-                // Tells how many variables there are.
-                let _ = t.terms();
+                t.facts();
                 t.lead_in(v)
             }
         }

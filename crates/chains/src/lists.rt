@@ -6,17 +6,6 @@ ghost use Rattle.impose_rules.specs.Chains.{is_variable_above, members_above, wi
 use sparse_poly::{Poly, Polys};
 use std::alloc::{AllocError, Global};
 
-/// An equal list.
-pub fn copied(alloc: Global, list: &Polys) -> Result<Polys, AllocError>
-    ensures { IfOk result (λ r. r ≡ list.now) }
-{
-    let mut out = Polys::new(alloc);
-    for i in 0..list.count() {
-        out.push(list.at(i).copy()?)?;
-    }
-    Ok(out)
-}
-
 /// A list with `t` at its main variable `v`, and copies of the polynomials with other ones.
 pub fn copied_with(alloc: Global, list: &Polys, v: usize, t: Poly) -> Result<Polys, AllocError>
     ensures { IfOk result (λ r. r ≡ with_member v t list.now) }

@@ -2,11 +2,10 @@ ghost use Rattle.std.specs.Prelude.{◌≡◌, ◌≢◌, [], IfOk, OnOk, OnErr}
 ghost use Rattle.polynomials.specs.Polynomials.{IsPolynomial, monic};
 ghost use Rattle.zero_sets.specs.Tasks.{is_member, is_known_nonzero, with_nonzero};
 
-use crate::lists::copied;
 use crate::monic_forms::is_monic_form;
 use field_table::Field;
 use mono_words::VARS;
-use sparse_poly::{Poly, Polys};
+use sparse_poly::{Poly, Polys, copied};
 use std::alloc::{AllocError, Global};
 use std::marker::Model;
 

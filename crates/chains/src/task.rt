@@ -1,9 +1,8 @@
 ghost use Rattle.std.specs.Prelude.{◌≡◌, IfOk};
 
 use crate::chain::Chain;
-use crate::lists::copied;
 use crate::nonzero::NonZero;
-use sparse_poly::Polys;
+use sparse_poly::{Polys, copied};
 use std::alloc::{AllocError, Global};
 use std::marker::Model;
 

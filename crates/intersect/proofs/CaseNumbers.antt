@@ -8,7 +8,7 @@ use Rattle.impose_rules.proofs.Lists.{each_appended}
 use Rattle.subresultants.specs.declared.outcome.RemainderRows.{RemainderRows}
 use Rattle.intersect.specs.declared.cases.Case.{Case}
 use Rattle.intersect.specs.declared.cases.Case.TheVariants.{Lead, Initial}
-use Rattle.intersect.specs.Cases.{IsCaseOf, AreCasesOf, initial_cases, member_cases, cases_of_rows, cases_of_head}
+use Rattle.intersect.specs.Cases.{IsCaseOf, AreCasesOf, initial_cases, member_cases, cases_of_rows}
 
 module _ (p k : ℕ) where
   abbrev AreNumbers : List ℕ → Type 0
@@ -45,7 +45,3 @@ module _ (p k : ℕ) where
 -- in the cases by rows
 pub rows_have_cases : (p w : ℕ) (ns : List Polynomial) (rows : RemainderRows) (common : Bool) → AreCasesOf (length rows.leads) (cases_of_rows p w ns rows common)
 rows_have_cases p w ns rows common = each_appended (IsCaseOf (length rows.leads)) (member_cases p w rows common ++ map Lead (lead_cases p ns rows.leads)) (initial_cases p ns rows.leads) (each_appended (IsCaseOf (length rows.leads)) (member_cases p w rows common) (map Lead (lead_cases p ns rows.leads)) (member_is_case p (length rows.leads) w rows common) (cases_of_numbers p (length rows.leads) (lead_cases p ns rows.leads) (lead_numbers p (length rows.leads) ns rows.leads refl))) (initial_is_case p (length rows.leads) ns rows.leads)
-
--- and in those by an initial
-pub head_has_cases : (p w k : ℕ) (ns : List Polynomial) (r : Polynomial) (ls : List Polynomial) → AreCasesOf k (cases_of_head p w ns r ls)
-head_has_cases p w k ns r ls = (tt, initial_is_case p k ns ls)

@@ -1,8 +1,7 @@
 -- Lists that are made item by item, and what holds of each of their items.
 use Rattle.std.proofs.Common.{◌≡◌, ℕ, zero, suc, ◌+◌, ◌≤◌, List, [], ◌∷◌, ◌++◌, length, map, take, drop, append_assoc, append-nil, Some, sym, ap, ◌∙◌, arith}
-use Rattle.std.specs.List.{slice_get, AllByRecursion}
+use Rattle.std.specs.List.{slice_get}
 use Rattle.std.proofs.Math.ListN.{drop_of_length-le}
-use Rattle.std.proofs.lemmas.List.{map-append}
 use Rattle.item_lists.proofs.Places.{drop_at}
 
 -- one more of the first items
@@ -25,16 +24,3 @@ module _ {X Y : Type 0} (g : X → Y) (xs : List X) (i : ℕ) (out all : List Y)
   -- at the end all are
   pub mapped_all : length xs ≤ i → out ++ map g (drop i xs) ≡ all → out ≡ all
   mapped_all end whole = sym (append-nil out) ∙ sym (ap (λ zs. out ++ map g zs) (drop_of_length-le xs end)) ∙ whole
-
--- the last of a list is mapped last
-pub mapped_last : {X Y : Type 0} (g : X → Y) (xs before : List X) (last : X) (out longer : List Y) → xs ≡ before ++ last ∷ [] → out ≡ map g before → longer ≡ out ++ g last ∷ [] → longer ≡ map g xs
-mapped_last g xs before last out longer parts made is = is ∙ ap (λ zs. zs ++ g last ∷ []) made ∙ sym (ap (map g) parts ∙ map-append g before (last ∷ []))
-
--- the first of those that are left is mapped next
-pub mapped_next : {X Y : Type 0} (g : X → Y) (rest left : List X) (x : X) (out longer all : List Y) → rest ≡ x ∷ left → longer ≡ out ++ g x ∷ [] → out ++ map g rest ≡ all → longer ++ map g left ≡ all
-mapped_next g rest left x out longer all parts is whole = ap (λ zs. zs ++ map g left) is ∙ append_assoc out (g x ∷ []) (map g left) ∙ ap (λ zs. out ++ map g zs) (sym parts) ∙ whole
-
--- what holds of each of a list holds of its parts
-pub each_parts : {X : Type 0} (Q : X → Type 0) (xs ys : List X) → AllByRecursion Q (xs ++ ys) → AllByRecursion Q xs × AllByRecursion Q ys
-each_parts Q [] ys h = (tt, h)
-each_parts Q (x ∷ xs) ys h = let rest = each_parts Q xs ys h.1 in ((h.0, rest.0), rest.1)

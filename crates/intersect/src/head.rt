@@ -34,10 +34,8 @@ pub fn reduced_head(
     ensures over { IfOk result (λ r. IfSome r (IsPolynomial w.now.field VARS)) }
     ensures reduced { IfOk result (λ r. IfSome r (λ g. IsReducedBy g left.now.chain)) }
 {
-    // Tells that the modulus is prime.
-    let _ = w.field.prime();
-    // Tells that the chain is triangular.
-    let _ = left.chain.polys();
+    w.field.facts();
+    left.chain.facts();
     made_head(alloc, w, f, left)
 }
 
@@ -47,7 +45,7 @@ fn made_head(alloc: Global, w: &Work, f: &Poly, left: &Task) -> Result<Option<Po
     ensures value { IfOk result (λ r. r ≡ reduced_head w.now.field VARS w.now.width
         left.now.chain left.now.queue left.now.nonzero f.now) }
 {
-    match reduce(alloc, *w, f, left.chain.polys())? {
+    match reduce(*w, f, left.chain.polys())? {
         None => Ok(None),
         Some(g) => {
             let stripped = strip(alloc, *w, &g, left.nonzero.polys())?;

@@ -36,10 +36,8 @@ pub fn children_at(
     ensures { IfOk result (λ kids. kids ≡ children_at w.now.field VARS w.now.width
         left.chain left.queue left.nonzero v r (member_in v left.chain)) }
 {
-    // Tells that the modulus is prime.
-    let _ = w.field.prime();
-    // Tells that the chain is triangular.
-    let _ = left.chain.polys();
+    w.field.facts();
+    left.chain.facts();
     match left.chain.at(v) {
         None => Ok(Some(children_in_new_variable(alloc, w, v, r, left)?)),
         Some(t) => {
@@ -64,8 +62,7 @@ fn children_in_new_variable(
         ≡ child_extended w.now.field VARS w.now.width left.chain left.queue left.nonzero v r
         ∷ child_initial w.now.field VARS w.now.width left.chain left.queue left.nonzero v r) }
 {
-    // Tells that the modulus is prime.
-    let _ = w.field.prime();
+    w.field.facts();
     let mut leads = Polys::new(alloc);
     leads.push(r.lead_in(v)?)?;
     let cases = cases_of_head(alloc, w, &r, &leads, &left.nonzero)?;

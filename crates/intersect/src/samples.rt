@@ -59,8 +59,7 @@ fn chain(alloc: Global, f: Field, all: &[&[Term]]) -> Result<Chain, AllocError>
 fn nonzero(alloc: Global, f: Field, all: &[&[Term]]) -> Result<NonZero, AllocError>
     ensures { IfOk result (ArePolynomials f VARS) }
 {
-    // Tells that the modulus is prime.
-    let _ = f.prime();
+    f.facts();
     let mut known = NonZero::empty(alloc);
     for terms in all {
         let h = poly(alloc, f, terms)?;

@@ -29,15 +29,13 @@ pub fn impose(alloc: Global, w: Work, task: Task) -> Result<Step<Task, Chain>, A
         → made ≡ impose_step w.field VARS w.width task.chain f rest task.nonzero) }
     ensures cover { IfOk result (CoversTask w.field task) }
 {
-    // Tells that the modulus is prime.
-    let _ = w.field.prime();
+    w.field.facts();
     let Task {
         chain,
         queue,
         nonzero,
     } = task;
-    // Tells that the chain is triangular.
-    let _ = chain.polys();
+    chain.facts();
     let mut rest = queue;
     match rest.take_first() {
         None => unreachable!(),

@@ -23,7 +23,6 @@ pub fn divided(
     requires right { IsPolynomial w.field VARS b.now }
     requires nonzero { b.now ≢ [] }
     requires some { a.now ≢ [] }
-    requires most { (v : ℕ) → degree_in v a.now ≤ 65535 }
     requires room { (v : ℕ) → exponent_of v room + degree_in v b.now ≡ degree_in v a.now }
     ensures quotient { IfOk result (λ r. IfSome r (λ q.
         quotient_within w.field w.width a.now b.now ≡ Some q.items)) }
@@ -48,15 +47,13 @@ fn divided_by_terms(
     requires right { IsPolynomial w.field VARS b.now }
     requires nonzero { b.now ≢ [] }
     requires some { a.now ≢ [] }
-    requires most { (v : ℕ) → degree_in v a.now ≤ 65535 }
     requires room { (v : ℕ) → exponent_of v room + degree_in v b.now ≡ degree_in v a.now }
     ensures quotient { IfOk result (λ r. IfSome r (λ q.
         quotient_within w.field w.width a.now b.now ≡ Some q.items)) }
     ensures none { IfOk result (λ r. IfNone r (quotient_within w.field w.width a.now b.now ≡ None)) }
 {
     let f = w.field;
-    // Tells that the modulus is prime.
-    let _ = f.prime();
+    f.facts();
     let lead = b.terms()[0];
     let inverse = f.inv(lead.1);
     let mut quotient = Vec::new(alloc);

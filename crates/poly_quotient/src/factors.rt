@@ -17,8 +17,7 @@ pub fn strip(alloc: Global, w: Work, a: &Poly, list: &Polys) -> Result<Poly, All
     ensures over { IfOk result (IsPolynomial w.field VARS) }
 {
     let Work { field, width } = w;
-    // Tells that the modulus is prime.
-    let _ = field.prime();
+    field.facts();
     let mut left = a.copy()?;
     if left.is_zero() {
         return Ok(left);
@@ -41,8 +40,7 @@ fn without(alloc: Global, w: Work, a: Poly, b: &Poly) -> Result<Poly, AllocError
     ensures { IfOk result (λ r. r ≡ without_factor w.field w.width b.now (factor_bound a) a) }
 {
     let Work { field, width } = w;
-    // Tells that the modulus is prime.
-    let _ = field.prime();
+    field.facts();
     let mut left = a;
     while let Some(quotient) = quo(alloc, Work { field, width }, &left, b)? {
         left = quotient;

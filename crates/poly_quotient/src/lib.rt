@@ -1,7 +1,6 @@
 //! Exact quotients of sparse polynomials that fit a width, and removal of factors.
 #![tactic(auto)]
 
-mod degrees;
 mod division;
 mod factors;
 mod last;

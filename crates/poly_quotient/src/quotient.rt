@@ -4,7 +4,6 @@ ghost use Rattle.polynomials.specs.Fits.{fits};
 ghost use Rattle.sparse_poly.specs.Values.{HasValueOfProduct};
 ghost use Rattle.division_rules.specs.Quotients.{quotient_within};
 
-use crate::degrees::degrees;
 use crate::division::divided;
 use crate::last::last_monomial;
 use mono_words::VARS;
@@ -24,8 +23,7 @@ pub fn quo(alloc: Global, w: Work, a: &Poly, b: &Poly) -> Result<Option<Poly>, A
     ensures over { IfOk result (λ r. IfSome r (IsPolynomial w.field VARS)) }
     ensures values { IfOk result (λ r. IfSome r (λ q. HasValueOfProduct w.field q b.now a.now)) }
 {
-    // Tells that the modulus is prime.
-    let _ = w.field.prime();
+    w.field.facts();
     found(alloc, w, a, b)
 }
 
@@ -36,8 +34,7 @@ fn found(alloc: Global, w: Work, a: &Poly, b: &Poly) -> Result<Option<Poly>, All
     requires nonzero { b.now ≢ [] }
     ensures { IfOk result (λ r. r ≡ quotient_within w.field w.width a.now b.now) }
 {
-    // Tells that the modulus is prime.
-    let _ = w.field.prime();
+    w.field.facts();
     if a.is_zero() {
         return Ok(Some(Poly::zero(alloc)));
     }
@@ -46,7 +43,7 @@ fn found(alloc: Global, w: Work, a: &Poly, b: &Poly) -> Result<Option<Poly>, All
     if !by.divides(last) {
         return Ok(None);
     }
-    let (high, low) = (degrees(a.terms()), degrees(b.terms()));
+    let (high, low) = (a.degrees(), b.degrees());
     if !low.divides(high) {
         return Ok(None);
     }

@@ -1,6 +1,5 @@
-ghost use Rattle.std.specs.Prelude.{◌≡◌, ◌≢◌, ◌≤◌, ℕ, [], Some, None, length, IfOk, IfSome, IfNone};
+ghost use Rattle.std.specs.Prelude.{◌≡◌, ◌≢◌, [], Some, None, length, IfOk, IfSome, IfNone};
 ghost use Rattle.polynomials.specs.Polynomials.{IsPolynomial};
-ghost use Rattle.polynomials.specs.Views.{degree_in};
 ghost use Rattle.division_rules.specs.Quotients.{quotient_within};
 
 use mono_words::{Mono, VARS};
@@ -18,14 +17,12 @@ pub fn divided_by_term(
     requires right { IsPolynomial w.field VARS b.now }
     requires single { length b.now ≡ 1 }
     requires some { a.now ≢ [] }
-    requires most { (v : ℕ) → degree_in v a.now ≤ 65535 }
     ensures quotient { IfOk result (λ r. IfSome r (λ q.
         quotient_within w.field w.width a.now b.now ≡ Some q.items)) }
     ensures none { IfOk result (λ r. IfNone r (quotient_within w.field w.width a.now b.now ≡ None)) }
 {
     let f = w.field;
-    // Tells that the modulus is prime.
-    let _ = f.prime();
+    f.facts();
     let by = b.terms()[0];
     if a.term_count() > w.width as usize {
         return Ok(None);

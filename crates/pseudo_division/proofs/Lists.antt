@@ -1,6 +1,5 @@
 -- Lists that are made entry by entry, and end where an entry isn't there.
-use Rattle.std.proofs.Common.{◌≡◌, ◌+◌, ℕ, List, [], ◌∷◌, ◌++◌, drop, Option, Some, None, refl, sym, ap, ◌∙◌, append_assoc, append-nil}
-use Rattle.std.specs.List.{slice_get}
+use Rattle.std.proofs.Common.{◌≡◌, List, [], ◌∷◌, ◌++◌, Option, Some, None, refl, sym, ap, ◌∙◌, append_assoc}
 pub use Rattle.item_lists.proofs.Places.{drop_at}
 pub use Rattle.polynomials.proofs.PolynomialLists.{IsPolynomial-at}
 use Rattle.division_rules.specs.Within.{and_then}
@@ -25,11 +24,3 @@ module _ {A : Type 0} where
   -- an entry that isn't there
   pub made_none : (whole : Option (List A)) (made : List A) (first : Option A) (rest : Option (List A)) → first ≡ None → IsMade whole made (in_front first rest) → whole ≡ None
   made_none whole made first rest e h = h ∙ ap (λ y. and_then (in_front y rest) (λ xs. Some (made ++ xs))) e
-
--- one more copy of an item
-pub copied_more : {X : Type 0} (xs out longer : List X) (i : ℕ) (x y : X) → slice_get xs i ≡ Some x → y ≡ x → longer ≡ out ++ y ∷ [] → out ++ drop i xs ≡ xs → longer ++ drop (i + 1) xs ≡ xs
-copied_more xs out longer i x y at same is whole =
-    ap (λ zs. zs ++ drop (i + 1) xs) is
-    ∙ (append_assoc out (y ∷ []) (drop (i + 1) xs)
-    ∙ (ap (λ z. out ++ (z ∷ drop (i + 1) xs)) same
-    ∙ (ap (λ zs. out ++ zs) (sym (drop_at xs i x at)) ∙ whole)))

@@ -34,8 +34,7 @@ pub fn eliminate(
     ensures combination { IfOk result (λ r. IfSome r (
         IsCombinationWhere w.field (f.now ∷ g.now ∷ []))) }
 {
-    // Tells that the modulus is prime.
-    let _ = w.field.prime();
+    w.field.facts();
     let (a, b) = (&f.first, &g.first);
     let l = lead(&w, b, v)?;
     let m = shifted_lead(&w, a, b, v)?;
@@ -56,8 +55,7 @@ pub fn times_row(alloc: Global, w: &Work, l: &Poly, f: &Row) -> Result<Option<Ro
     ensures over { IfOk result (λ r. IfSome r (IsPolynomialRow w.now.field VARS)) }
     ensures cofactors { IfOk result (λ r. IfSome r (λ h. length h.cofactors ≡ length f.now.cofactors)) }
 {
-    // Tells that the modulus is prime.
-    let _ = w.field.prime();
+    w.field.facts();
     match times(w, l, &f.first)? {
         None => Ok(None),
         Some(first) => match times_all(alloc, w, l, &f.cofactors)? {

@@ -13,7 +13,7 @@ mod row;
 pub use elimination::eliminate;
 pub use plain::reduce;
 pub use powers::power;
-pub use products::times_all;
+pub use products::{times, times_all};
 pub use reduction::reduce_rows;
 pub use remainder::prem_full;
 pub use row::{Row, Rows};

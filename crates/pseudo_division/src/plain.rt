@@ -12,11 +12,11 @@ use crate::leads::{lead, shifted_lead};
 use crate::products::cross;
 use mono_words::VARS;
 use sparse_poly::{Poly, Polys, Work};
-use std::alloc::{AllocError, Global};
+use std::alloc::AllocError;
 
 /// The sparse pseudo-remainders of `f` by the polynomials of `by` in their main variables, the
 /// last one first; `None` where a product on the way doesn't fit the width.
-pub fn reduce(alloc: Global, w: Work, f: &Poly, by: &Polys) -> Result<Option<Poly>, AllocError>
+pub fn reduce(w: Work, f: &Poly, by: &Polys) -> Result<Option<Poly>, AllocError>
     requires over { IsPolynomial w.field VARS f.now }
     requires chain { ArePolynomials w.field VARS by.now }
     requires triangular { AreTriangular (plains by.now) }
@@ -25,10 +25,7 @@ pub fn reduce(alloc: Global, w: Work, f: &Poly, by: &Polys) -> Result<Option<Pol
     ensures over { IfOk result (λ r. IfSome r (IsPolynomial w.field VARS)) }
     ensures reduced { IfOk result (λ r. IfSome r (λ h. EachRow (HasLessDegree h) (plains by.now))) }
 {
-    // Tells that the modulus is prime.
-    let _ = w.field.prime();
-    // No memory is taken beside that of the polynomials.
-    let _ = alloc;
+    w.field.facts();
     reduced(&w, f, by)
 }
 
@@ -197,8 +194,7 @@ fn eliminated(w: &Work, f: &Poly, g: &Poly, v: usize) -> Result<Option<Poly>, Al
         (operations w.now.field) w.now.width v (plain f.now) (plain g.now)) }
     ensures over { IfOk result (λ r. IfSome r (IsPolynomial w.now.field VARS)) }
 {
-    // Tells that the modulus is prime.
-    let _ = w.field.prime();
+    w.field.facts();
     let l = lead(w, g, v)?;
     let m = shifted_lead(w, f, g, v)?;
     cross(w, &l, &m, f, g)

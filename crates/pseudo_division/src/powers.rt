@@ -15,8 +15,7 @@ pub fn power(alloc: Global, w: Work, a: &Poly, e: u16) -> Result<Option<Poly>, A
     ensures value { IfOk result (λ r. r ≡ power_of_within (operations w.field) w.width a.now e) }
     ensures over { IfOk result (λ r. IfSome r (IsPolynomial w.field VARS)) }
 {
-    // Tells that 1 is a residue.
-    let _ = w.field.prime();
+    w.field.facts();
     if e == 0 {
         return Ok(Some(Poly::constant(alloc, w.field, 1)?));
     }

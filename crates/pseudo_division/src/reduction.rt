@@ -29,8 +29,7 @@ pub fn reduce_rows(alloc: Global, w: Work, f: &Row, by: &Rows) -> Result<Option<
         IsCombinationWhere w.field (f.now ∷ by.now))) }
     ensures reduced { IfOk result (λ r. IfSome r (λ h. EachRow (HasLessDegree h.first) by.now)) }
 {
-    // Tells that the modulus is prime.
-    let _ = w.field.prime();
+    w.field.facts();
     reduced(alloc, w, f, by)
 }
 

@@ -34,8 +34,7 @@ pub fn prem_full(
     ensures combination { IfOk result (λ r. IfSome r (
         IsCombinationWhere w.field (f.now ∷ g.now ∷ []))) }
 {
-    // Tells that the modulus is prime.
-    let _ = w.field.prime();
+    w.field.facts();
     full_remainder(alloc, &w, f, g, v)
 }
 

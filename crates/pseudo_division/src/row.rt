@@ -1,7 +1,7 @@
 ghost use Rattle.std.specs.Prelude.{◌≡◌, IfOk};
 
 use item_lists::Items;
-use sparse_poly::{Poly, Polys};
+use sparse_poly::{Poly, Polys, copied};
 use std::alloc::{AllocError, Global};
 use std::marker::Model;
 
@@ -34,15 +34,4 @@ impl Row {
             cofactors: copied(alloc, &self.cofactors)?,
         })
     }
-}
-
-/// An equal list.
-fn copied(alloc: Global, list: &Polys) -> Result<Polys, AllocError>
-    ensures { IfOk result (λ r. r ≡ list.now) }
-{
-    let mut out = Polys::new(alloc);
-    for i in 0..list.count() {
-        out.push(list.at(i).copy()?)?;
-    }
-    Ok(out)
 }

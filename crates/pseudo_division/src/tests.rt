@@ -175,7 +175,7 @@ fn reduces(
     let mut by = Polys::new(alloc);
     by.push(t)?;
     by.push(s)?;
-    let found = reduce(alloc, Work { field, width }, &f, &by)?;
+    let found = reduce(Work { field, width }, &f, &by)?;
     is_poly(alloc, field, found, due)
 }
 
@@ -359,7 +359,7 @@ fn stays_alone(alloc: Global, width: u32, f: Terms<'_>) -> Result<bool, Fail> {
     let field = Field::of(5)?;
     let f = poly(alloc, field, f)?;
     let by = Polys::new(alloc);
-    let found = reduce(alloc, Work { field, width }, &f, &by)?;
+    let found = reduce(Work { field, width }, &f, &by)?;
     Ok(found.is_some_and(|r| r == f))
 }
 

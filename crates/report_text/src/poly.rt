@@ -1,6 +1,5 @@
 ghost use Rattle.std.specs.Prelude.{◌≡◌, ℕ, ◌≤◌, [], ◌∷◌, ◌++◌, length, map, IfOk, OnOk, string_bytes};
 ghost use Rattle.polynomials.specs.Monomials.{exponent_of};
-ghost use Rattle.polynomials.specs.Views.{degree_in};
 ghost use Rattle.report_text.specs.Laws.{SpellsOver, SpellsNonzeroOver};
 ghost use Rattle.report_text.specs.Lines.{nonzero_line};
 ghost use Rattle.report_text.specs.Polynomials.{power_text, power_texts, powers_text, term_text, poly_text, IsInLeast};
@@ -18,7 +17,7 @@ pub fn print_poly(alloc: Global, names: &Names, f: &Poly) -> Result<String, Allo
     ensures spells { IfOk result (λ text.
         SpellsOver VARS (map string_bytes names.now) f.now (string_bytes text)) }
 {
-    tell_exponents(f.terms());
+    f.facts();
     let mut text = String::new(alloc);
     write_poly(&mut text, names, f)?;
     Ok(text)
@@ -34,15 +33,6 @@ pub fn print_nonzero(alloc: Global, names: &Names, f: &Poly) -> Result<String, A
 {
     let poly = print_poly(alloc, names, f)?;
     format!(in alloc; "nonzero {poly}\n")
-}
-
-/// Does nothing: its clause tells that exponents have 16 bits.
-fn tell_exponents(terms: &[(Mono, u32)])
-    ensures { (v : ℕ) → degree_in v terms.now ≤ 65535 }
-{
-    for t in terms {
-        t.0.shape();
-    }
 }
 
 /// Appends the text of a polynomial.

@@ -19,3 +19,4 @@ pub mod Slots
 pub mod BoxTurns
 pub mod BoxRows
 pub mod BoxSums
+mod Copies

@@ -13,7 +13,7 @@ mod views;
 mod work;
 
 pub use poly::Poly;
-pub use system::{Names, Polys, System};
+pub use system::{Names, Polys, System, copied};
 pub use work::Work;
 
 #[cfg(test)]

@@ -1,9 +1,23 @@
+ghost use Rattle.std.specs.Prelude.{◌≡◌, IfOk};
+
 use crate::poly::Poly;
 use field_table::Field;
 use item_lists::Items;
+use std::alloc::{AllocError, Global};
 
 /// A list of polynomials.
 pub type Polys = Items<Poly>;
+
+/// An equal list.
+pub fn copied(alloc: Global, list: &Polys) -> Result<Polys, AllocError>
+    ensures { IfOk result (λ r. r ≡ list.now) }
+{
+    let mut out = Polys::new(alloc);
+    for i in 0..list.count() {
+        out.push(list.at(i).copy()?)?;
+    }
+    Ok(out)
+}
 
 /// The names of the variables, the least first.
 pub type Names = Items<String>;

@@ -1,8 +1,10 @@
 ghost use Rattle.std.specs.Prelude.{◌≡◌, ◌<◌, ◌≤◌, ◌↔◌, ℕ, true, [], length, drop, IfOk, IsTrue};
+ghost use Rattle.polynomials.specs.Monomials.{exponent_of};
 ghost use Rattle.polynomials.specs.Polynomials.{IsPolynomial};
 ghost use Rattle.polynomials.specs.Views.{degree_in, coefficient_in, lead_in, tail_in, main_var, is_constant, IsFreeOf};
 ghost use Rattle.sparse_poly.specs.Values.{SplitsValue};
 
+use crate::fits::degrees;
 use crate::poly::Poly;
 use mono_words::{Mono, VARS};
 use std::alloc::AllocError;
@@ -35,6 +37,13 @@ impl Poly {
             Some(first) if self.is_free_above(v) => first.0.exponent(v),
             _ => greatest_exponent(self.terms(), v),
         }
+    }
+
+    /// The degree in each variable.
+    pub fn degrees(&self) -> Mono
+        ensures { (v : ℕ) → exponent_of v result ≡ degree_in v self.now }
+    {
+        degrees(self.terms())
     }
 
     /// The coefficient of the greatest power of `v`, and 0 for the polynomial 0.

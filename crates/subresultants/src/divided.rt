@@ -17,8 +17,7 @@ pub fn divided(alloc: Global, w: &Work, row: Row, b: &Poly) -> Result<Row, Alloc
     requires nonzero { b.now ≢ [] }
     ensures { IfOk result (λ r. r ≡ unwrap_or (divided (operations w.now.field) w.now.width b.now row) row) }
 {
-    // Tells that the modulus is prime.
-    let _ = w.field.prime();
+    w.field.facts();
     let whole = is_one(alloc, w, b)?;
     if whole {
         return Ok(row);
@@ -33,8 +32,7 @@ pub fn divided(alloc: Global, w: &Work, row: Row, b: &Poly) -> Result<Row, Alloc
 pub fn is_one(alloc: Global, w: &Work, b: &Poly) -> Result<bool, AllocError>
     ensures { IfOk result (λ r. IsTrue r ↔ (b.now ≡ one_of VARS)) }
 {
-    // Tells that 1 is a residue.
-    let _ = w.field.prime();
+    w.field.facts();
     let one = Poly::constant(alloc, w.field, 1)?;
     Ok(*b == one)
 }

@@ -3,7 +3,7 @@ ghost use Rattle.polynomials.specs.Polynomials.{IsPolynomial, negative_of};
 ghost use Rattle.division_rules.specs.Operations.{sign};
 ghost use Rattle.division_rules.specs.PolynomialRows.{IsPolynomialRow};
 ghost use Rattle.division_rules.specs.Quotients.{quotient_within};
-ghost use Rattle.division_rules.specs.Within.{and_then, times_within};
+ghost use Rattle.division_rules.specs.Within.{and_then};
 ghost use Rattle.division_rules.specs.RemainderRowsWithin.{later_psi_within, later_beta_within};
 ghost use Rattle.pseudo_division.specs.FieldOperations.{operations};
 ghost use Rattle.subresultants.specs.Turns.{IsTurnBeforeOver, divisors_within};
@@ -11,7 +11,7 @@ ghost use Rattle.subresultants.specs.Turns.{IsTurnBeforeOver, divisors_within};
 use crate::divided::is_one;
 use mono_words::VARS;
 use poly_quotient::quo;
-use pseudo_division::{Row, power};
+use pseudo_division::{Row, power, times};
 use sparse_poly::{Poly, Work};
 use std::alloc::{AllocError, Global};
 
@@ -37,8 +37,7 @@ pub fn divisors(
     ensures over { IfOk result (λ r. IfSome r (λ d. IsPolynomial w.now.field VARS d.1)) }
     ensures nonzero { IfOk result (λ r. IfSome r (λ d. d.1 ≢ [])) }
 {
-    // Tells that the modulus is prime.
-    let _ = w.field.prime();
+    w.field.facts();
     match memory {
         None => Ok(Some(first_divisors(alloc, w, fall)?)),
         Some(before) => {
@@ -63,8 +62,7 @@ fn first_divisors(alloc: Global, w: &Work, fall: u16) -> Result<(Poly, Poly), Al
 fn next_sign(alloc: Global, w: &Work, n: u16) -> Result<Poly, AllocError>
     ensures { IfOk result (λ r. r ≡ sign (operations w.now.field) (suc n)) }
 {
-    // Tells that 1 is a residue.
-    let _ = w.field.prime();
+    w.field.facts();
     let one = Poly::constant(alloc, w.field, 1)?;
     if n % 2 == 0 {
         negative(alloc, w, &one)
@@ -90,8 +88,7 @@ fn later_divisors(
     ensures over { IfOk result (λ r. IfSome r (λ d. IsPolynomial w.now.field VARS d.1)) }
     ensures nonzero { IfOk result (λ r. IfSome r (λ d. d.1 ≢ [])) }
 {
-    // Tells that the modulus is prime.
-    let _ = w.field.prime();
+    w.field.facts();
     match psi(alloc, w, l, before)? {
         None => Ok(None),
         Some(psi) => match beta(alloc, w, l, &psi, fall)? {
@@ -112,8 +109,7 @@ fn psi(alloc: Global, w: &Work, l: &Poly, before: &(Poly, u16)) -> Result<Option
     ensures over { IfOk result (λ r. IfSome r (IsPolynomial w.now.field VARS)) }
     ensures nonzero { IfOk result (λ r. IfSome r (λ q. q ≢ [])) }
 {
-    // Tells that the modulus is prime.
-    let _ = w.field.prime();
+    w.field.facts();
     let fall = before.1;
     match power(alloc, *w, l, fall)? {
         None => Ok(None),
@@ -134,8 +130,7 @@ fn quotient_or_itself(alloc: Global, w: &Work, a: Poly, b: &Poly) -> Result<Poly
     ensures over { IfOk result (IsPolynomial w.now.field VARS) }
     ensures nonzero { IfOk result (λ q. q ≢ []) }
 {
-    // Tells that the modulus is prime.
-    let _ = w.field.prime();
+    w.field.facts();
     let whole = is_one(alloc, w, b)?;
     if whole {
         return Ok(a);
@@ -165,23 +160,12 @@ fn beta(
     }
 }
 
-/// The product, and `None` where it doesn't fit the width.
-fn times(w: &Work, a: &Poly, b: &Poly) -> Result<Option<Poly>, AllocError>
-    requires left { IsPolynomial w.now.field VARS a.now }
-    requires right { IsPolynomial w.now.field VARS b.now }
-    ensures value { IfOk result (λ r. r ≡ times_within (operations w.now.field) w.now.width a.now b.now) }
-    ensures over { IfOk result (λ r. IfSome r (IsPolynomial w.now.field VARS)) }
-{
-    a.mul(*w, b)
-}
-
 /// The negative.
 fn negative(alloc: Global, w: &Work, a: &Poly) -> Result<Poly, AllocError>
     requires { IsPolynomial w.now.field VARS a.now }
     ensures value { IfOk result (λ r. r ≡ negative_of w.now.field a.now) }
     ensures over { IfOk result (IsPolynomial w.now.field VARS) }
 {
-    // Tells that the modulus is prime.
-    let _ = w.field.prime();
+    w.field.facts();
     Poly::zero(alloc).sub(w.field, a)
 }

@@ -42,8 +42,7 @@ fn unit_cofactors(
     ensures value { IfOk result (λ r. r ≡ unit_cofactors [] (one_of VARS) before behind) }
     ensures over { IfOk result (ArePolynomials w.now.field VARS) }
 {
-    // Tells that 1 is a residue.
-    let _ = w.field.prime();
+    w.field.facts();
     let mut list = Polys::new(alloc);
     push_zeros(alloc, &mut list, before)?;
     list.push(Poly::constant(alloc, w.field, 1)?)?;

@@ -61,8 +61,7 @@ pub fn remainder_rows(
     ensures shown_lead { cofactors ≡ true → IfOk result (IfCommon
         (ShowsLeadWhereReduced w.field v t.now c.now below.now)) }
 {
-    // Tells that the modulus is prime.
-    let _ = w.field.prime();
+    w.field.facts();
     let w = &w;
     let count = below.count();
     let first = generator_row(alloc, w, t, cofactors, 1, count)?;
@@ -88,8 +87,7 @@ fn rows_of(
     requires cofactors { EachRow (λ f. length f.cofactors ≡ length first.cofactors) (first ∷ second ∷ chain.now) }
     ensures { IfOk result (λ r. r ≡ outcome_of w.now.field w.now.width v chain.now first second) }
 {
-    // Tells that the modulus is prime.
-    let _ = w.field.prime();
+    w.field.facts();
     let turns = second.first.degree_in(v) as u32 + 1;
     let mut leads = Polys::new(alloc);
     leads.push(second.first.lead_in(v)?)?;

@@ -3,7 +3,7 @@ ghost use Rattle.std.specs.Str.Parse.{AllDigits};
 ghost use Rattle.polynomials.specs.Polynomials.{IsPolynomial};
 ghost use Rattle.polynomials.specs.Fits.{power_within};
 ghost use Rattle.system_text.specs.Limits.{text_width};
-ghost use Rattle.system_text.specs.Sums.{with_factor, variable_at, number_base, at_factor, after_factor_at, power_factor, exponent_at, at_exponent, place_of_name};
+ghost use Rattle.system_text.specs.Factors.{with_factor, variable_at, number_base, at_factor, after_factor_at, power_factor, exponent_at, at_exponent, place_of_name};
 ghost use Rattle.system_parser.specs.Tokens.{token_of, placed_of, IsSpelled};
 ghost use Rattle.system_parser.specs.Readings.{Gives};
 ghost use Rattle.system_parser.specs.Sums.{frame_of, frames_of, reading_of, IsReading};
@@ -56,8 +56,7 @@ impl Reading {
                 byte: t.first,
             })),
             Some(v) => {
-                // Tells that 1 is a residue.
-                let _ = over.field.prime();
+                over.field.facts();
                 let value = Poly::from_terms(self.alloc, over.field, &[(Mono::power(v, 1), 1)])?;
                 self.mode = Mode::AfterBase(Base {
                     value,

@@ -1,6 +1,7 @@
 ghost use Rattle.std.specs.Prelude.{◌≡◌, ◌<◌, ◌++◌, ℕ, IfOk, OnOk};
 ghost use Rattle.polynomials.specs.Polynomials.{IsPolynomial};
-ghost use Rattle.system_text.specs.Sums.{empty_frame, with_last};
+ghost use Rattle.system_text.specs.Readings.{empty_frame};
+ghost use Rattle.system_text.specs.Factors.{with_last};
 ghost use Rattle.system_parser.specs.Sums.{frame_of, IsFrame, signed_terms, negated_if};
 
 use field_table::Field;
@@ -41,8 +42,7 @@ impl Frame {
         ensures product { self.new.product ≡ self.old.product }
         ensures frame { OnOk result (IsFrame f self.new) }
     {
-        // Tells that the modulus is positive.
-        let _ = f.prime();
+        f.facts();
         let sign = self.is_negative;
         append_signed(&mut self.terms, f, sign, value.terms())
     }

@@ -36,8 +36,7 @@ pub fn power(alloc: Global, f: Field, base: Poly, e: u16) -> Result<Option<Poly>
     ensures over { IfOk result (λ r. IfSome r (IsPolynomial f VARS)) }
 {
     if e == 0 {
-        // Tells that 1 is a residue.
-        let _ = f.prime();
+        f.facts();
         return Ok(Some(Poly::constant(alloc, f, 1)?));
     }
     if e == 1 {
@@ -64,8 +63,7 @@ fn power_of_term(
     ensures value { IfOk result (λ r. r ≡ power_within f VARS text_width (t.now ∷ []) e) }
     ensures over { IfOk result (λ r. IfSome r (IsPolynomial f VARS)) }
 {
-    // Tells that the modulus is prime.
-    let _ = f.prime();
+    f.facts();
     // Tells that exponents have 16 bits.
     t.0.shape();
     match raised_monomial(t.0, e) {

@@ -1,6 +1,8 @@
 ghost use Rattle.std.specs.Prelude.{◌≡◌, ◌≤◌, ℕ, length, IfOk, OnOk};
 ghost use Rattle.polynomials.specs.Polynomials.{IsPolynomial};
-ghost use Rattle.system_text.specs.Sums.{start, opened_at, at_sum, closed_at, next_term, after_factor, after_bare, after_base_token, step, ended_with, line_ended, read_tokens, read_sum};
+ghost use Rattle.system_text.specs.Readings.{start};
+ghost use Rattle.system_text.specs.Factors.{opened_at, at_sum};
+ghost use Rattle.system_text.specs.Sums.{closed_at, next_term, after_factor, after_bare, after_base_token, step, ended_with, line_ended, read_tokens, read_sum};
 ghost use Rattle.system_text.specs.Lines.{is_nonzero_line, is_nonzero_word, read_nonzero};
 ghost use Rattle.system_parser.specs.Tokens.{token_of, placed_of, IsSpelled};
 ghost use Rattle.system_parser.specs.Readings.{Gives};

@@ -18,17 +18,17 @@ remainder_rows-requires-clause-variable c = main_variable_small c.args.w.now.fie
 pub remainder_rows-requires-clause-first : goal.remainder_rows-requires-clause-first
 remainder_rows-requires-clause-first c =
     let chain = ap (λ (t : Task). t.chain) c.left.view_is in
-    member_canonical c.args.w.now.field c.args.w.now.width c.args.v c.args.r c.args.left c.prime.ensures.prime c.requires.over (subst IsTriangular chain c.polys.ensures.triangular) c.requires.head c.requires.reduced c.requires.variable c.in-Some.t.now (sym (c.in-Some.ensures ∙ ap (member_in c.args.v) chain))
+    member_canonical c.args.w.now.field c.args.w.now.width c.args.v c.args.r c.args.left c.facts.ensures.prime c.requires.over (subst IsTriangular chain c.facts-2.ensures.triangular) c.requires.head c.requires.reduced c.requires.variable c.in-Some.t.now (sym (c.in-Some.ensures ∙ ap (member_in c.args.v) chain))
 
 pub remainder_rows-requires-clause-chain : goal.remainder_rows-requires-clause-chain
 remainder_rows-requires-clause-chain c =
     let chain = ap (λ (t : Task). t.chain) c.left.view_is in
-    lower_canonical c.args.w.now.field c.args.w.now.width c.args.v c.args.r c.args.left c.prime.ensures.prime c.requires.over (subst IsTriangular chain c.polys.ensures.triangular) c.requires.head c.requires.reduced c.requires.variable c.in-Some.t.now (sym (c.in-Some.ensures ∙ ap (member_in c.args.v) chain)) c.in_ok-below-in-Some.below (c.in_ok-below-in-Some.ensures ∙ ap (members_below c.args.v) chain)
+    lower_canonical c.args.w.now.field c.args.w.now.width c.args.v c.args.r c.args.left c.facts.ensures.prime c.requires.over (subst IsTriangular chain c.facts-2.ensures.triangular) c.requires.head c.requires.reduced c.requires.variable c.in-Some.t.now (sym (c.in-Some.ensures ∙ ap (member_in c.args.v) chain)) c.in_ok-below-in-Some.below (c.in_ok-below-in-Some.ensures ∙ ap (members_below c.args.v) chain)
 
 pub remainder_rows-requires-clause-start : goal.remainder_rows-requires-clause-start
 remainder_rows-requires-clause-start c =
     let chain = ap (λ (t : Task). t.chain) c.left.view_is in
-    rows_start c.args.w.now.field c.args.w.now.width c.args.v c.args.r c.args.left c.prime.ensures.prime c.requires.over (subst IsTriangular chain c.polys.ensures.triangular) c.requires.head c.requires.reduced c.requires.variable c.in-Some.t.now (sym (c.in-Some.ensures ∙ ap (member_in c.args.v) chain)) c.in_ok-below-in-Some.below (c.in_ok-below-in-Some.ensures ∙ ap (members_below c.args.v) chain)
+    rows_start c.args.w.now.field c.args.w.now.width c.args.v c.args.r c.args.left c.facts.ensures.prime c.requires.over (subst IsTriangular chain c.facts-2.ensures.triangular) c.requires.head c.requires.reduced c.requires.variable c.in-Some.t.now (sym (c.in-Some.ensures ∙ ap (member_in c.args.v) chain)) c.in_ok-below-in-Some.below (c.in_ok-below-in-Some.ensures ∙ ap (members_below c.args.v) chain)
 
 pub children_by-requires-clause-over : goal.children_by-requires-clause-over
 children_by-requires-clause-over c = outcome_leads c.args.w.now.field c.args.v (plain c.in-Some.t.now) (plain c.args.r) (remainder_rows_within (operations c.args.w.now.field) c.args.w.now.width c.args.v (plains c.in_ok-below-in-Some.below) (plain c.in-Some.t.now) (plain c.args.r)) c.in_ok-remainders-in-Some.remainders c.in_ok-remainders-in-Some.ensures.value c.in_ok-remainders-in-Some.ensures.over
@@ -36,4 +36,4 @@ children_by-requires-clause-over c = outcome_leads c.args.w.now.field c.args.v (
 pub returns-in_ok-remainders-in-Some : goal.returns-in_ok-remainders-in-Some
 returns-in_ok-remainders-in-Some c =
     let chain = ap (λ (t : Task). t.chain) c.left.view_is in
-    IfOk-implied _ _ c.children_by.result (λ kids made. member_kids c.args.w.now.field c.args.w.now.width c.args.v c.args.r c.args.left c.prime.ensures.prime c.requires.over (subst IsTriangular chain c.polys.ensures.triangular) c.requires.head c.requires.reduced c.requires.variable c.in-Some.t.now (sym (c.in-Some.ensures ∙ ap (member_in c.args.v) chain)) c.in_ok-below-in-Some.below c.in_ok-remainders-in-Some.remainders kids (c.in_ok-below-in-Some.ensures ∙ ap (members_below c.args.v) chain) c.in_ok-remainders-in-Some.ensures.value made) c.children_by.ensures
+    IfOk-implied _ _ c.children_by.result (λ kids made. member_kids c.args.w.now.field c.args.w.now.width c.args.v c.args.r c.args.left c.facts.ensures.prime c.requires.over (subst IsTriangular chain c.facts-2.ensures.triangular) c.requires.head c.requires.reduced c.requires.variable c.in-Some.t.now (sym (c.in-Some.ensures ∙ ap (member_in c.args.v) chain)) c.in_ok-below-in-Some.below c.in_ok-remainders-in-Some.remainders kids (c.in_ok-below-in-Some.ensures ∙ ap (members_below c.args.v) chain) c.in_ok-remainders-in-Some.ensures.value made) c.children_by.ensures

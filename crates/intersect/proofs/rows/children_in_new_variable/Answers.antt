@@ -38,4 +38,4 @@ children_in-requires-clause-head c = record {
 }
 
 pub returns : goal.returns
-returns c = IfOk-implied _ _ c.children_in.result (λ kids made. new_variable_kids c.args.w.now.field c.args.w.now.width c.args.v c.args.r c.args.left c.push.new.self c.left-2.inside.nonzero c.in_ok-cases.cases kids c.prime.ensures.prime c.requires.head c.requires.variable (c.in_ok-push.ensures.ok ∙ ap (λ ls. ls ++ c.in_ok-lead_in.field-0 ∷ []) c.new-leads.ensures ∙ ap (λ l. l ∷ []) c.in_ok-lead_in.ensures.lead) (ap (λ (t : Task). t.nonzero) c.left-2.view_is) c.in_ok-cases.ensures made) c.children_in.ensures
+returns c = IfOk-implied _ _ c.children_in.result (λ kids made. new_variable_kids c.args.w.now.field c.args.w.now.width c.args.v c.args.r c.args.left c.push.new.self c.left-2.inside.nonzero c.in_ok-cases.cases kids c.facts.ensures.prime c.requires.head c.requires.variable (c.in_ok-push.ensures.ok ∙ ap (λ ls. ls ++ c.in_ok-lead_in.field-0 ∷ []) c.new-leads.ensures ∙ ap (λ l. l ∷ []) c.in_ok-lead_in.ensures.lead) (ap (λ (t : Task). t.nonzero) c.left-2.view_is) c.in_ok-cases.ensures made) c.children_in.ensures

@@ -8,6 +8,6 @@ use Rattle.intersect.proofs.samples.nonzero.Goals.{then-not-is_zero+in_ok-add, e
 
 pub loop-terms-preserved : goal.loop-terms-preserved
 loop-terms-preserved c = elim c.if-not-is_zero.branch [
-  | then-not-is_zero+in_ok-add w ↦ subst (ArePolynomials c.args.f VARS) (sym (w.known-is ∙ w.in_ok-add.ensures.ok)) (nonzero_added c.args.f VARS c.prime.ensures.prime c.loop-terms.known c.in_ok-h.h c.loop-terms.invariant c.in_ok-h.ensures)
+  | then-not-is_zero+in_ok-add w ↦ subst (ArePolynomials c.args.f VARS) (sym (w.known-is ∙ w.in_ok-add.ensures.ok)) (nonzero_added c.args.f VARS c.facts.ensures.prime c.loop-terms.known c.in_ok-h.h c.loop-terms.invariant c.in_ok-h.ensures)
   | else-not-is_zero w ↦ subst (ArePolynomials c.args.f VARS) (sym w.known-is) c.loop-terms.invariant
 ]

@@ -15,36 +15,36 @@ loop-first-init c =
     let all = c.of-rest.ensures.terms ∙ c.terms-3.ensures.terms in (
       whole,
       rest_begins c.args.w.field VARS c.args.a.now c.of-rest.result.terms.now (heap_items c.of-rest.result.products) all c.of-rest.ensures.products c.requires.left c.of-rest.ensures.order,
-      begins c.args.w.field VARS c.args.w.width c.prime.ensures.prime c.args.a.now c.args.b.now c.index-terms-0.result c.requires.left c.requires.right c.requires.some (take (length c.terms-2.result.now - 1) (drop 1 c.terms-2.result.now)) whole c.new-quotient.result.items (sum_of_rest c.args.w.field c.of-rest.result.terms.now (heap_items c.of-rest.result.products)) c.new-quotient.ensures.items (begun c.args.w.field VARS c.args.a.now c.of-rest.result.terms.now (heap_items c.of-rest.result.products) all c.of-rest.ensures.products c.requires.left),
+      begins c.args.w.field VARS c.args.w.width c.facts.ensures.prime c.args.a.now c.args.b.now c.index-terms-0.result c.requires.left c.requires.right c.requires.some (take (length c.terms-2.result.now - 1) (drop 1 c.terms-2.result.now)) whole c.new-quotient.result.items (sum_of_rest c.args.w.field c.of-rest.result.terms.now (heap_items c.of-rest.result.products)) c.new-quotient.ensures.items (begun c.args.w.field VARS c.args.a.now c.of-rest.result.terms.now (heap_items c.of-rest.result.products) all c.of-rest.ensures.products c.requires.left),
       (let none = ap length c.new-quotient.ensures.items in rw none (omega arith)),
     )
 
 pub returns-then-terms-w-clause-none : goal.returns-then-terms-w-clause-none
 returns-then-terms-w-clause-none c = elim c.then-terms-w.branch [
   | then-terms-w-via-then-terms-w w ↦
-      stops_long c.args.w.field VARS c.args.w.width c.prime.ensures.prime c.args.a.now c.args.b.now c.index-terms-0.result c.requires.left c.requires.right c.requires.some (take (length c.terms-2.result.now - 1) (drop 1 c.terms-2.result.now)) c.loop-first.invariant.0 c.loop-first.quotient.items (sum_of_rest c.args.w.field c.loop-first.rest.terms.now (heap_items c.loop-first.rest.products)) (sum_of_rest c.args.w.field c.take_first.new.self.terms.now (heap_items c.take_first.new.self.products)) c.in-Some.first c.in-Some.ensures.some c.loop-first.invariant.2
+      stops_long c.args.w.field VARS c.args.w.width c.facts.ensures.prime c.args.a.now c.args.b.now c.index-terms-0.result c.requires.left c.requires.right c.requires.some (take (length c.terms-2.result.now - 1) (drop 1 c.terms-2.result.now)) c.loop-first.invariant.0 c.loop-first.quotient.items (sum_of_rest c.args.w.field c.loop-first.rest.terms.now (heap_items c.loop-first.rest.products)) (sum_of_rest c.args.w.field c.take_first.new.self.terms.now (heap_items c.take_first.new.self.products)) c.in-Some.first c.in-Some.ensures.some c.loop-first.invariant.2
       (subst (λ k. c.args.w.width < k) (ap₂ (λ x y. (x + 1) * y) (c.len.ensures ∙ c.loop-first.quotient.ok.0) c.term_count.ensures) w.if-terms-w.true)
   | then-terms-w-via-else-terms-w+then-not-divides w ↦
-      stops_undivided c.args.w.field VARS c.args.w.width c.prime.ensures.prime c.args.a.now c.args.b.now c.index-terms-0.result c.requires.left c.requires.right c.requires.some (take (length c.terms-2.result.now - 1) (drop 1 c.terms-2.result.now)) c.loop-first.invariant.0 c.loop-first.quotient.items (sum_of_rest c.args.w.field c.loop-first.rest.terms.now (heap_items c.loop-first.rest.products)) (sum_of_rest c.args.w.field c.take_first.new.self.terms.now (heap_items c.take_first.new.self.products)) c.in-Some.first c.in-Some.ensures.some c.loop-first.invariant.2
+      stops_undivided c.args.w.field VARS c.args.w.width c.facts.ensures.prime c.args.a.now c.args.b.now c.index-terms-0.result c.requires.left c.requires.right c.requires.some (take (length c.terms-2.result.now - 1) (drop 1 c.terms-2.result.now)) c.loop-first.invariant.0 c.loop-first.quotient.items (sum_of_rest c.args.w.field c.loop-first.rest.terms.now (heap_items c.loop-first.rest.products)) (sum_of_rest c.args.w.field c.take_first.new.self.terms.now (heap_items c.take_first.new.self.products)) c.in-Some.first c.in-Some.ensures.some c.loop-first.invariant.2
       (λ h. let f = w.if-not-divides.ensures.1 h in cc)
 ]
 
 pub returns-then-not-divides-2-clause-none : goal.returns-then-not-divides-2-clause-none
 returns-then-not-divides-2-clause-none c =
-    stops_high c.args.w.field VARS c.args.w.width c.prime.ensures.prime c.args.a.now c.args.b.now c.index-terms-0.result c.requires.left c.requires.right c.requires.some (take (length c.terms-2.result.now - 1) (drop 1 c.terms-2.result.now)) c.loop-first.invariant.0 c.loop-first.quotient.items (sum_of_rest c.args.w.field c.loop-first.rest.terms.now (heap_items c.loop-first.rest.products)) (sum_of_rest c.args.w.field c.take_first.new.self.terms.now (heap_items c.take_first.new.self.products)) c.in-Some.first c.in-Some.ensures.some c.loop-first.invariant.2
-    (term c.quotient.result c.mul.result) (term_is c.args.w.field VARS c.args.w.width c.prime.ensures.prime c.args.a.now c.args.b.now c.index-terms-0.result c.requires.left c.requires.right c.requires.some (take (length c.terms-2.result.now - 1) (drop 1 c.terms-2.result.now)) c.loop-first.invariant.0 c.in-Some.first (term c.quotient.result c.mul.result) c.shape.ensures.variables c.quotient.ensures (c.mul.ensures.product ∙ ap (λ x. c.in-Some.first.1 * x % c.args.w.field) c.inv-inverse.ensures.inverse))
+    stops_high c.args.w.field VARS c.args.w.width c.facts.ensures.prime c.args.a.now c.args.b.now c.index-terms-0.result c.requires.left c.requires.right c.requires.some (take (length c.terms-2.result.now - 1) (drop 1 c.terms-2.result.now)) c.loop-first.invariant.0 c.loop-first.quotient.items (sum_of_rest c.args.w.field c.loop-first.rest.terms.now (heap_items c.loop-first.rest.products)) (sum_of_rest c.args.w.field c.take_first.new.self.terms.now (heap_items c.take_first.new.self.products)) c.in-Some.first c.in-Some.ensures.some c.loop-first.invariant.2
+    (term c.quotient.result c.mul.result) (term_is c.args.w.field VARS c.args.w.width c.facts.ensures.prime c.args.a.now c.args.b.now c.index-terms-0.result c.requires.left c.requires.right c.requires.some (take (length c.terms-2.result.now - 1) (drop 1 c.terms-2.result.now)) c.loop-first.invariant.0 c.in-Some.first (term c.quotient.result c.mul.result) c.shape.ensures.variables c.quotient.ensures (c.mul.ensures.product ∙ ap (λ x. c.in-Some.first.1 * x % c.args.w.field) c.inv-inverse.ensures.inverse))
     c.args.room c.requires.room (λ h. let f = c.if-not-divides-2.ensures.1 h in cc)
 
 pub add_product-requires-clause-term : goal.add_product-requires-clause-term
 add_product-requires-clause-term c =
-    opposite_canonical c.args.w.field VARS c.args.w.width c.prime.ensures.prime c.args.a.now c.args.b.now c.index-terms-0.result c.requires.left c.requires.right c.requires.some (take (length c.terms-2.result.now - 1) (drop 1 c.terms-2.result.now)) c.loop-first.invariant.0 c.loop-first.quotient.items (sum_of_rest c.args.w.field c.loop-first.rest.terms.now (heap_items c.loop-first.rest.products)) (sum_of_rest c.args.w.field c.take_first.new.self.terms.now (heap_items c.take_first.new.self.products)) c.in-Some.first c.in-Some.ensures.some c.loop-first.invariant.2
-    (term c.quotient.result c.mul.result) c.neg.result (term_is c.args.w.field VARS c.args.w.width c.prime.ensures.prime c.args.a.now c.args.b.now c.index-terms-0.result c.requires.left c.requires.right c.requires.some (take (length c.terms-2.result.now - 1) (drop 1 c.terms-2.result.now)) c.loop-first.invariant.0 c.in-Some.first (term c.quotient.result c.mul.result) c.shape.ensures.variables c.quotient.ensures (c.mul.ensures.product ∙ ap (λ x. c.in-Some.first.1 * x % c.args.w.field) c.inv-inverse.ensures.inverse)) (c.if-not-divides.ensures.0 refl) c.neg.ensures.negative
+    opposite_canonical c.args.w.field VARS c.args.w.width c.facts.ensures.prime c.args.a.now c.args.b.now c.index-terms-0.result c.requires.left c.requires.right c.requires.some (take (length c.terms-2.result.now - 1) (drop 1 c.terms-2.result.now)) c.loop-first.invariant.0 c.loop-first.quotient.items (sum_of_rest c.args.w.field c.loop-first.rest.terms.now (heap_items c.loop-first.rest.products)) (sum_of_rest c.args.w.field c.take_first.new.self.terms.now (heap_items c.take_first.new.self.products)) c.in-Some.first c.in-Some.ensures.some c.loop-first.invariant.2
+    (term c.quotient.result c.mul.result) c.neg.result (term_is c.args.w.field VARS c.args.w.width c.facts.ensures.prime c.args.a.now c.args.b.now c.index-terms-0.result c.requires.left c.requires.right c.requires.some (take (length c.terms-2.result.now - 1) (drop 1 c.terms-2.result.now)) c.loop-first.invariant.0 c.in-Some.first (term c.quotient.result c.mul.result) c.shape.ensures.variables c.quotient.ensures (c.mul.ensures.product ∙ ap (λ x. c.in-Some.first.1 * x % c.args.w.field) c.inv-inverse.ensures.inverse)) (c.if-not-divides.ensures.0 refl) c.neg.ensures.negative
 
 pub add_product-requires-clause-over : goal.add_product-requires-clause-over
-add_product-requires-clause-over c = later_canonical c.args.w.field VARS c.args.w.width c.prime.ensures.prime c.args.a.now c.args.b.now c.index-terms-0.result c.requires.left c.requires.right c.requires.some (take (length c.terms-2.result.now - 1) (drop 1 c.terms-2.result.now)) c.loop-first.invariant.0
+add_product-requires-clause-over c = later_canonical c.args.w.field VARS c.args.w.width c.facts.ensures.prime c.args.a.now c.args.b.now c.index-terms-0.result c.requires.left c.requires.right c.requires.some (take (length c.terms-2.result.now - 1) (drop 1 c.terms-2.result.now)) c.loop-first.invariant.0
 
 pub add_product-requires-clause-fit : goal.add_product-requires-clause-fit
-add_product-requires-clause-fit c = later_fits c.args.w.field VARS c.args.w.width c.prime.ensures.prime c.args.a.now c.args.b.now c.index-terms-0.result c.requires.left c.requires.right c.requires.some (take (length c.terms-2.result.now - 1) (drop 1 c.terms-2.result.now)) c.loop-first.invariant.0 c.requires.most c.quotient.result c.args.room c.requires.room (c.if-not-divides-2.ensures.0 refl)
+add_product-requires-clause-fit c = later_fits c.args.w.field VARS c.args.w.width c.facts.ensures.prime c.args.a.now c.args.b.now c.index-terms-0.result c.requires.left c.requires.right c.requires.some (take (length c.terms-2.result.now - 1) (drop 1 c.terms-2.result.now)) c.loop-first.invariant.0 c.terms-3.ensures.exponents c.quotient.result c.args.room c.requires.room (c.if-not-divides-2.ensures.0 refl)
 
 pub loop-first-smaller : goal.loop-first-smaller
 loop-first-smaller c =
@@ -55,9 +55,9 @@ loop-first-smaller c =
 pub loop-first-preserved : goal.loop-first-preserved
 loop-first-preserved c =
     let few = subst (λ k. k ≤ c.args.w.width) (ap₂ (λ x y. (x + 1) * y) (c.len.ensures ∙ c.loop-first.quotient.ok.0) c.term_count.ensures) c.if-terms-w.false in
-    let is = (term_is c.args.w.field VARS c.args.w.width c.prime.ensures.prime c.args.a.now c.args.b.now c.index-terms-0.result c.requires.left c.requires.right c.requires.some (take (length c.terms-2.result.now - 1) (drop 1 c.terms-2.result.now)) c.loop-first.invariant.0 c.in-Some.first (term c.quotient.result c.mul.result) c.shape.ensures.variables c.quotient.ensures (c.mul.ensures.product ∙ ap (λ x. c.in-Some.first.1 * x % c.args.w.field) c.inv-inverse.ensures.inverse)) in
+    let is = (term_is c.args.w.field VARS c.args.w.width c.facts.ensures.prime c.args.a.now c.args.b.now c.index-terms-0.result c.requires.left c.requires.right c.requires.some (take (length c.terms-2.result.now - 1) (drop 1 c.terms-2.result.now)) c.loop-first.invariant.0 c.in-Some.first (term c.quotient.result c.mul.result) c.shape.ensures.variables c.quotient.ensures (c.mul.ensures.product ∙ ap (λ x. c.in-Some.first.1 * x % c.args.w.field) c.inv-inverse.ensures.inverse)) in
     let divides = c.if-not-divides.ensures.0 refl in
-    let next = turn c.args.w.field VARS c.args.w.width c.prime.ensures.prime c.args.a.now c.args.b.now c.index-terms-0.result c.requires.left c.requires.right c.requires.some (take (length c.terms-2.result.now - 1) (drop 1 c.terms-2.result.now)) c.loop-first.invariant.0 c.loop-first.quotient.items (sum_of_rest c.args.w.field c.loop-first.rest.terms.now (heap_items c.loop-first.rest.products)) (sum_of_rest c.args.w.field c.take_first.new.self.terms.now (heap_items c.take_first.new.self.products)) c.in-Some.first c.in-Some.ensures.some c.loop-first.invariant.2 (term c.quotient.result c.mul.result) (sum_of_rest c.args.w.field c.add_product.new.self.terms.now (heap_items c.add_product.new.self.products)) is divides (opposite_product c.args.w.field VARS c.args.w.width c.prime.ensures.prime c.args.a.now c.args.b.now c.index-terms-0.result c.requires.left c.requires.right c.requires.some (take (length c.terms-2.result.now - 1) (drop 1 c.terms-2.result.now)) c.loop-first.invariant.0 c.loop-first.quotient.items (sum_of_rest c.args.w.field c.loop-first.rest.terms.now (heap_items c.loop-first.rest.products)) (sum_of_rest c.args.w.field c.take_first.new.self.terms.now (heap_items c.take_first.new.self.products)) c.in-Some.first c.in-Some.ensures.some c.loop-first.invariant.2 (term c.quotient.result c.mul.result) c.neg.result is divides c.neg.ensures.negative (sum_of_rest c.args.w.field c.add_product.new.self.terms.now (heap_items c.add_product.new.self.products)) c.in_ok-add_product.ensures.sum) in (
+    let next = turn c.args.w.field VARS c.args.w.width c.facts.ensures.prime c.args.a.now c.args.b.now c.index-terms-0.result c.requires.left c.requires.right c.requires.some (take (length c.terms-2.result.now - 1) (drop 1 c.terms-2.result.now)) c.loop-first.invariant.0 c.loop-first.quotient.items (sum_of_rest c.args.w.field c.loop-first.rest.terms.now (heap_items c.loop-first.rest.products)) (sum_of_rest c.args.w.field c.take_first.new.self.terms.now (heap_items c.take_first.new.self.products)) c.in-Some.first c.in-Some.ensures.some c.loop-first.invariant.2 (term c.quotient.result c.mul.result) (sum_of_rest c.args.w.field c.add_product.new.self.terms.now (heap_items c.add_product.new.self.products)) is divides (opposite_product c.args.w.field VARS c.args.w.width c.facts.ensures.prime c.args.a.now c.args.b.now c.index-terms-0.result c.requires.left c.requires.right c.requires.some (take (length c.terms-2.result.now - 1) (drop 1 c.terms-2.result.now)) c.loop-first.invariant.0 c.loop-first.quotient.items (sum_of_rest c.args.w.field c.loop-first.rest.terms.now (heap_items c.loop-first.rest.products)) (sum_of_rest c.args.w.field c.take_first.new.self.terms.now (heap_items c.take_first.new.self.products)) c.in-Some.first c.in-Some.ensures.some c.loop-first.invariant.2 (term c.quotient.result c.mul.result) c.neg.result is divides c.neg.ensures.negative (sum_of_rest c.args.w.field c.add_product.new.self.terms.now (heap_items c.add_product.new.self.products)) c.in_ok-add_product.ensures.sum) in (
       c.loop-first.invariant.0,
       c.in_ok-add_product.ensures.rest,
       rw c.in_ok-push.ensures.items next,
@@ -66,4 +66,4 @@ loop-first-preserved c =
 
 pub returns-clause-quotient : goal.returns-clause-quotient
 returns-clause-quotient c =
-    done c.args.w.field VARS c.args.w.width c.prime.ensures.prime c.args.a.now c.args.b.now c.index-terms-0.result c.requires.left c.requires.right c.requires.some (take (length c.terms-2.result.now - 1) (drop 1 c.terms-2.result.now)) c.loop-first.invariant.0 c.requires.most c.loop-first.quotient.items (sum_of_rest c.args.w.field c.loop-first.rest.terms.now (heap_items c.loop-first.rest.products)) c.in_default.ensures.none c.loop-first.invariant.2 c.loop-first.invariant.3
+    done c.args.w.field VARS c.args.w.width c.facts.ensures.prime c.args.a.now c.args.b.now c.index-terms-0.result c.requires.left c.requires.right c.requires.some (take (length c.terms-2.result.now - 1) (drop 1 c.terms-2.result.now)) c.loop-first.invariant.0 c.terms-3.ensures.exponents c.loop-first.quotient.items (sum_of_rest c.args.w.field c.loop-first.rest.terms.now (heap_items c.loop-first.rest.products)) c.in_default.ensures.none c.loop-first.invariant.2 c.loop-first.invariant.3

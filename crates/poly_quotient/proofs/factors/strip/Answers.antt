@@ -39,8 +39,8 @@ loop-i-preserved c =
       | then-not-is_constant+in_ok-left-2 w ↦
           let varies = false_from_ne_true (is_constant c.at-b.result.now) (λ e. let f = w.if-not-is_constant.ensures.1 e in cc) in
           let next = w.left-is ∙ w.in_ok-left-2.ensures in (
-            (λ e. without_factor_nonzero c.args.w.field VARS c.args.w.width c.prime.ensures.prime c.at-b.result.now c.loop-i.left (factor_bound c.loop-i.left) ib c.loop-i.invariant.1 c.loop-i.invariant.0 (sym next ∙ e)),
-            subst (IsPolynomial c.args.w.field VARS) (sym next) (IsPolynomial-without_factor c.args.w.field VARS c.args.w.width c.prime.ensures.prime c.at-b.result.now c.loop-i.left (factor_bound c.loop-i.left) ib c.loop-i.invariant.1),
+            (λ e. without_factor_nonzero c.args.w.field VARS c.args.w.width c.facts.ensures.prime c.at-b.result.now c.loop-i.left (factor_bound c.loop-i.left) ib c.loop-i.invariant.1 c.loop-i.invariant.0 (sym next ∙ e)),
+            subst (IsPolynomial c.args.w.field VARS) (sym next) (IsPolynomial-without_factor c.args.w.field VARS c.args.w.width c.facts.ensures.prime c.at-b.result.now c.loop-i.left (factor_bound c.loop-i.left) ib c.loop-i.invariant.1),
             member_divided c.args.w.field c.args.w.width c.args.list.now c.loop-i.i c.at-b.result.now c.loop-i.left _ c.at-b.ensures c.if-not-is_constant.left varies next c.loop-i.invariant.2,
           )
       | else-not-is_constant w ↦ (

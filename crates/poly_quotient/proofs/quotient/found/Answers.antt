@@ -1,7 +1,6 @@
 -- The last monomials and the degrees allow a quotient, and the division finds it.
 use Rattle.std.proofs.Common.{◌≡◌, ◌<◌, ◌∙◌, List, Some, IfSome, All, sym, ap, subst}
 use Rattle.mono_words.specs.declared.mono.TheConstants.{VARS}
-use Rattle.polynomials.specs.Views.{degree_in}
 use Rattle.polynomials.specs.Polynomials.{Term, collected}
 use Rattle.polynomials.proofs.SamePolynomials.{collected_itself}
 use Rattle.division_rules.specs.Quotients.{quotient_within}
@@ -18,26 +17,26 @@ last_monomial-by-requires c = λ e. c.requires.nonzero (sym c.terms-2.ensures.te
 
 pub returns-then-not-divides : goal.returns-then-not-divides
 returns-then-not-divides c =
-    sym (none_of_last c.args.w.field VARS c.args.w.width c.prime.ensures.prime c.args.a.now c.args.b.now c.requires.left c.requires.right c.requires.nonzero c.last_monomial-by.result c.last_monomial-last.result
+    sym (none_of_last c.args.w.field VARS c.args.w.width c.facts.ensures.prime c.args.a.now c.args.b.now c.requires.left c.requires.right c.requires.nonzero c.last_monomial-by.result c.last_monomial-last.result
     (c.last_monomial-by.ensures.0, (c.last_monomial-by.ensures.1.0, sym c.terms-2.ensures.terms ∙ c.last_monomial-by.ensures.1.1))
     (c.last_monomial-last.ensures.0, (c.last_monomial-last.ensures.1.0, sym c.terms.ensures.terms ∙ c.last_monomial-last.ensures.1.1))
     (λ h. let f = c.if-not-divides.ensures.1 h in cc))
 
 pub returns-then-not-divides-2 : goal.returns-then-not-divides-2
 returns-then-not-divides-2 c =
-    sym (none_of_degrees c.args.w.field VARS c.args.w.width c.prime.ensures.prime c.args.a.now c.args.b.now c.requires.left c.requires.right c.requires.nonzero c.degrees-low.result c.degrees-high.result (λ v. c.degrees-low.ensures.each v ∙ ap (degree_in v) c.terms-4.ensures.terms) (λ v. c.degrees-high.ensures.each v ∙ ap (degree_in v) c.terms-3.ensures.terms)
+    sym (none_of_degrees c.args.w.field VARS c.args.w.width c.facts.ensures.prime c.args.a.now c.args.b.now c.requires.left c.requires.right c.requires.nonzero c.degrees-low.result c.degrees-high.result c.degrees-low.ensures c.degrees-high.ensures
     (λ e. let f = c.if-is_zero.ensures.1 e in cc)
     (λ h. let f = c.if-not-divides-2.ensures.1 h in cc))
 
 pub divided-requires-clause-room : goal.divided-requires-clause-room
-divided-requires-clause-room c = room_of c.args.w.field VARS c.args.w.width c.prime.ensures.prime c.args.a.now c.args.b.now c.requires.left c.requires.right c.requires.nonzero c.degrees-low.result c.degrees-high.result (λ v. c.degrees-low.ensures.each v ∙ ap (degree_in v) c.terms-4.ensures.terms) (λ v. c.degrees-high.ensures.each v ∙ ap (degree_in v) c.terms-3.ensures.terms) c.quotient.result c.quotient.ensures
+divided-requires-clause-room c = room_of c.args.w.field VARS c.args.w.width c.facts.ensures.prime c.args.a.now c.args.b.now c.requires.left c.requires.right c.requires.nonzero c.degrees-low.result c.degrees-high.result c.degrees-low.ensures c.degrees-high.ensures c.quotient.result c.quotient.ensures
 
 pub from_terms-requires : goal.from_terms-requires
 from_terms-requires c =
-    let canonical = canonical_of c.args.w.field VARS c.args.w.width c.prime.ensures.prime c.args.a.now c.args.b.now c.requires.left c.requires.right c.requires.nonzero c.in-Some.terms.items (subst (λ o. IfSome o (λ q. quotient_within c.args.w.field c.args.w.width c.args.a.now c.args.b.now ≡ Some q.items)) c.in-Some.is c.in_ok-divided.ensures.quotient) in
+    let canonical = canonical_of c.args.w.field VARS c.args.w.width c.facts.ensures.prime c.args.a.now c.args.b.now c.requires.left c.requires.right c.requires.nonzero c.in-Some.terms.items (subst (λ o. IfSome o (λ q. quotient_within c.args.w.field c.args.w.width c.args.a.now c.args.b.now ≡ Some q.items)) c.in-Some.is c.in_ok-divided.ensures.quotient) in
     subst (λ (l : List Term). All (λ (t : Term). t.1 < c.args.w.field) l) (sym c.deref.ensures.value) (All_residues c.args.w.field VARS c.in-Some.terms.items canonical)
 
 pub returns-in_ok-from_terms-in-Some : goal.returns-in_ok-from_terms-in-Some
 returns-in_ok-from_terms-in-Some c =
-    let canonical = canonical_of c.args.w.field VARS c.args.w.width c.prime.ensures.prime c.args.a.now c.args.b.now c.requires.left c.requires.right c.requires.nonzero c.in-Some.terms.items (subst (λ o. IfSome o (λ q. quotient_within c.args.w.field c.args.w.width c.args.a.now c.args.b.now ≡ Some q.items)) c.in-Some.is c.in_ok-divided.ensures.quotient) in
+    let canonical = canonical_of c.args.w.field VARS c.args.w.width c.facts.ensures.prime c.args.a.now c.args.b.now c.requires.left c.requires.right c.requires.nonzero c.in-Some.terms.items (subst (λ o. IfSome o (λ q. quotient_within c.args.w.field c.args.w.width c.args.a.now c.args.b.now ≡ Some q.items)) c.in-Some.is c.in_ok-divided.ensures.quotient) in
     ap Some (c.in_ok-from_terms-in-Some.ensures.value ∙ (ap (collected c.args.w.field) c.deref.ensures.value ∙ collected_itself c.args.w.field VARS c.in-Some.terms.items canonical)) ∙ sym (subst (λ o. IfSome o (λ q. quotient_within c.args.w.field c.args.w.width c.args.a.now c.args.b.now ≡ Some q.items)) c.in-Some.is c.in_ok-divided.ensures.quotient)

@@ -30,7 +30,7 @@ returns-clause-value c =
 
 pub returns-clause-over : goal.returns-clause-over
 returns-clause-over c =
-    IsPolynomialRow-elimination_within c.args.w.field VARS c.prime.ensures.least c.args.w.width c.args.v c.args.f.now c.args.g.now (record { first = c.in-Some.first; cofactors = c.in-Some-2.cofactors }) c.requires.left c.requires.right (sym (returns-clause-value c))
+    IsPolynomialRow-elimination_within c.args.w.field VARS c.facts.ensures.least c.args.w.width c.args.v c.args.f.now c.args.g.now (record { first = c.in-Some.first; cofactors = c.in-Some-2.cofactors }) c.requires.left c.requires.right (sym (returns-clause-value c))
 
 pub returns-clause-combination : goal.returns-clause-combination
-returns-clause-combination c = λ gs are each. holds_elimination c.args.w.field VARS c.prime.ensures.prime gs are c.args.w.width c.args.v c.args.f.now c.args.g.now (record { first = c.in-Some.first; cofactors = c.in-Some-2.cofactors }) c.requires.left c.requires.right each.0 each.1.0 (sym (returns-clause-value c))
+returns-clause-combination c = λ gs are each. holds_elimination c.args.w.field VARS c.facts.ensures.prime gs are c.args.w.width c.args.v c.args.f.now c.args.g.now (record { first = c.in-Some.first; cofactors = c.in-Some-2.cofactors }) c.requires.left c.requires.right each.0 each.1.0 (sym (returns-clause-value c))

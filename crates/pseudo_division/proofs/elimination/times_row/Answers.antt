@@ -29,4 +29,4 @@ returns-in-Some-2-clause-value c =
 
 pub returns-in-Some-2-clause-over : goal.returns-in-Some-2-clause-over
 returns-in-Some-2-clause-over c =
-    IsPolynomialRow-times_row_within c.args.w.now.field VARS c.prime.ensures.least c.args.w.now.width c.args.l.now c.args.f.now (record { first = c.in-Some.first; cofactors = c.in-Some-2.cofactors }) c.requires.factor c.requires.row (sym (returns-in-Some-2-clause-value c))
+    IsPolynomialRow-times_row_within c.args.w.now.field VARS c.facts.ensures.least c.args.w.now.width c.args.l.now c.args.f.now (record { first = c.in-Some.first; cofactors = c.in-Some-2.cofactors }) c.requires.factor c.requires.row (sym (returns-in-Some-2-clause-value c))

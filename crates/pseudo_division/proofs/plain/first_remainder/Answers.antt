@@ -1,6 +1,5 @@
 -- The first elimination, and those that are left.
 use Rattle.std.proofs.Common.{◌≡◌, ◌-◌, Option, Some, None, IfOk, option_map, ℕ, sym, ap, ap₂, ◌∙◌, subst}
-use Rattle.mono_words.specs.declared.mono.TheConstants.{VARS}
 use Rattle.polynomials.specs.Polynomials.{Polynomial}
 use Rattle.division_rules.specs.Rows.{Row, plain}
 use Rattle.division_rules.specs.Within.{elimination_within, sparse_remainder_within, sparse_remainder_by_within}

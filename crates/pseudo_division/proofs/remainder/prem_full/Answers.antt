@@ -9,5 +9,5 @@ use Rattle.pseudo_division.proofs.remainder.prem_full.Goals as goal
 pub returns-clause-combination : goal.returns-clause-combination
 returns-clause-combination c =
     IfOk-implied _ _ c.full_remainder.result
-    (λ r. IfSome-from _ r (pseudo_remainder_within (operations c.args.w.field) c.args.w.width c.args.v c.args.f.now c.args.g.now) (λ h e gs are each. holds_pseudo_remainder c.args.w.field VARS c.prime.ensures.prime gs are c.args.w.width c.args.v c.args.f.now c.args.g.now h c.requires.left c.requires.right each.0 each.1.0 e))
+    (λ r. IfSome-from _ r (pseudo_remainder_within (operations c.args.w.field) c.args.w.width c.args.v c.args.f.now c.args.g.now) (λ h e gs are each. holds_pseudo_remainder c.args.w.field VARS c.facts.ensures.prime gs are c.args.w.width c.args.v c.args.f.now c.args.g.now h c.requires.left c.requires.right each.0 each.1.0 e))
     c.full_remainder.ensures.value

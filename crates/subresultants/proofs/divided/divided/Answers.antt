@@ -9,4 +9,4 @@ use Rattle.subresultants.proofs.divided.divided.Goals as goal
 pub returns-then-whole : goal.returns-then-whole
 returns-then-whole c =
     let one = c.in_ok-whole.ensures.0 c.if-whole.true in
-    sym (ap (λ b. unwrap_or (divided (operations c.args.w.now.field) c.args.w.now.width b c.args.row) c.args.row) one ∙ divided-one c.args.w.now.field VARS c.prime.ensures.prime c.args.w.now.width c.args.row c.requires.row)
+    sym (ap (λ b. unwrap_or (divided (operations c.args.w.now.field) c.args.w.now.width b c.args.row) c.args.row) one ∙ divided-one c.args.w.now.field VARS c.facts.ensures.prime c.args.w.now.width c.args.row c.requires.row)

@@ -22,7 +22,7 @@ later_divisors-requires-clause-some c =
     subst (λ (f : Polynomial). f ≢ []) (sym c.in_ok-l-in-Some.ensures.value) (negative_of_nonzero c.args.w.now.field c.in_ok-lead-in-Some.lead lead_some)
 
 pub returns-in_ok-first_divisors-in-None-clause-over : goal.returns-in_ok-first_divisors-in-None-clause-over
-returns-in_ok-first_divisors-in-None-clause-over c = subst (IsPolynomial c.args.w.now.field VARS) (sym c.in_ok-first_divisors-in-None.ensures.beta) (IsPolynomial-sign c.args.w.now.field VARS c.prime.ensures.least (suc c.args.fall))
+returns-in_ok-first_divisors-in-None-clause-over c = subst (IsPolynomial c.args.w.now.field VARS) (sym c.in_ok-first_divisors-in-None.ensures.beta) (IsPolynomial-sign c.args.w.now.field VARS c.facts.ensures.least (suc c.args.fall))
 
 pub returns-in_ok-first_divisors-in-None-clause-nonzero : goal.returns-in_ok-first_divisors-in-None-clause-nonzero
-returns-in_ok-first_divisors-in-None-clause-nonzero c = subst (λ (f : Polynomial). f ≢ []) (sym c.in_ok-first_divisors-in-None.ensures.beta) (sign_nonzero c.args.w.now.field VARS c.prime.ensures.prime (suc c.args.fall))
+returns-in_ok-first_divisors-in-None-clause-nonzero c = subst (λ (f : Polynomial). f ≢ []) (sym c.in_ok-first_divisors-in-None.ensures.beta) (sign_nonzero c.args.w.now.field VARS c.facts.ensures.prime (suc c.args.fall))

@@ -13,4 +13,4 @@ returns-clause-value c = grind (arith, common_steps)
 pub returns-clause-over : goal.returns-clause-over
 returns-clause-over c =
     let whole : c.push_zeros-2.new.list ≡ unit_cofactors [] (one_of VARS) c.args.before c.args.behind = returns-clause-value c in
-    subst (ArePolynomials c.args.w.now.field VARS) (sym whole) (unit_canonical c.args.w.now.field c.prime.ensures.least c.args.before c.args.behind)
+    subst (ArePolynomials c.args.w.now.field VARS) (sym whole) (unit_canonical c.args.w.now.field c.facts.ensures.least c.args.before c.args.behind)

@@ -19,7 +19,7 @@ loop-init c =
     let rows : c.push-3.new.self ≡ c.args.first ∷ c.args.second ∷ [] = c.in_ok-push-3.ensures.ok ∙ ap (λ xs. xs ++ c.args.second ∷ []) (c.in_ok-push-2.ensures.ok ∙ ap (λ xs. xs ++ c.args.first ∷ []) c.new-rows.ensures) in
     let leads : c.push.new.self ≡ lead (operations c.args.w.now.field) c.args.v c.args.second.first ∷ [] = c.in_ok-push.ensures.ok ∙ ap₂ (λ xs x. xs ++ x ∷ []) c.new-leads.ensures (c.in_ok-lead_in.ensures.lead ∙ ap (λ (r : Row Polynomial). lead (operations c.args.w.now.field) c.args.v r.first) c.second.view_is) in
     sequence_starts c.args.w.now.field c.args.w.now.width c.args.v c.args.chain.now c.args.first c.args.second (c.degree_in.result + 1) c.push-3.new.self c.push.new.self turns rows leads
-    (start_row_turn c.args.w.now.field c.args.v c.prime.ensures.prime (length c.args.first.cofactors) c.args.chain.now c.requires.chain c.args.first c.args.second c.requires.first c.requires.second c.requires.start c.requires.cofactors)
+    (start_row_turn c.args.w.now.field c.args.v c.facts.ensures.prime (length c.args.first.cofactors) c.args.chain.now c.requires.chain c.args.first c.args.second c.requires.first c.requires.second c.requires.start c.requires.cofactors)
 
 pub turn_after-requires-clause-triangular : goal.turn_after-requires-clause-triangular
 turn_after-requires-clause-triangular c = c.requires.start.triangular

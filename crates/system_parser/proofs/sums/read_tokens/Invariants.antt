@@ -1,6 +1,7 @@
 -- What was read and what is to come are the whole.
 use Rattle.std.proofs.Common.{◌≡◌, length}
-use Rattle.system_text.specs.Sums.{read_tokens, start}
+use Rattle.system_text.specs.Readings.{start}
+use Rattle.system_text.specs.Sums.{read_tokens}
 use Rattle.system_parser.specs.Sums.{reading_of, IsReading}
 use Rattle.system_parser.specs.Systems.{setting_over}
 use Rattle.system_parser.proofs.sums.read_tokens.Given as goal

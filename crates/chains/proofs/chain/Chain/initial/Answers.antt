@@ -7,7 +7,7 @@ use Rattle.chains.proofs.MemberSteps.{member_main, main_variable_small}
 use Rattle.chains.proofs.chain.Chain.initial.Goals as goal
 
 pub lead_in-requires : goal.lead_in-requires
-lead_in-requires c = main_variable_small (2 ^ 32) VARS c.args.v c.in-Some.t.now c.terms.ensures.canonical (member_main c.args.v c.args.self.now c.in-Some.t.now (sym c.in-Some.ensures))
+lead_in-requires c = main_variable_small (2 ^ 32) VARS c.args.v c.in-Some.t.now c.facts.ensures.canonical (member_main c.args.v c.args.self.now c.in-Some.t.now (sym c.in-Some.ensures))
 
 pub returns : goal.returns
 returns c =

@@ -11,7 +11,7 @@ use Rattle.system_parser.proofs.frames.Frame.end_term.Goals as goal
 pub returns-clause-sum : goal.returns-clause-sum
 returns-clause-sum c =
     on_ok_weaker c.append_signed.result
-    (λ appended. collected-ended c.args.f VARS (omega (arith, c.prime.ensures.least)) c.args.self.now.is_negative c.args.self.now.product c.args.self.now.terms.items c.append_signed.new.out.items c.args.value.now c.requires.frame.variables c.requires.over
+    (λ appended. collected-ended c.args.f VARS (omega (arith, c.facts.ensures.least)) c.args.self.now.is_negative c.args.self.now.product c.args.self.now.terms.items c.append_signed.new.out.items c.args.value.now c.requires.frame.variables c.requires.over
     (appended ∙ ap (λ g. c.args.self.now.terms.items ++ signed_terms c.args.f c.args.self.now.is_negative g) c.terms.ensures.terms))
     c.append_signed.ensures
 

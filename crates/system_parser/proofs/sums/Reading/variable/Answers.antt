@@ -1,7 +1,8 @@
 -- The name is that of the variable whose term was made.
 use Rattle.std.proofs.Common.{Ok, sym, ap, ◌∙◌, arith}
 use Rattle.mono_words.specs.declared.mono.TheConstants.{VARS}
-use Rattle.system_text.specs.Sums.{AfterBase, variable_at}
+use Rattle.system_text.specs.Readings.{AfterBase}
+use Rattle.system_text.specs.Factors.{variable_at}
 use Rattle.system_parser.specs.Tokens.{placed_of}
 use Rattle.system_parser.specs.Sums.{frame_of, frames_of}
 use Rattle.system_parser.specs.Systems.{setting_over}
@@ -15,4 +16,4 @@ returns-in_ok-value-in-Some-clause-state c =
     let frame = frame_of p c.args.self.now.frame in
     ap (variable_at (setting_over c.args.over.now) outer frame (placed_of c.args.t.now)) (sym c.in-Some.ensures.place)
     ∙ ap (λ f. Ok (record { outer = outer; frame = frame; mode = AfterBase f c.args.t.now.last 65535 }))
-    (variable_from_term p VARS c.in-Some.v c.power.result c.in_ok-value-in-Some.value (omega (arith, c.prime.ensures.least)) c.power.ensures c.in_ok-value-in-Some.ensures.value)
+    (variable_from_term p VARS c.in-Some.v c.power.result c.in_ok-value-in-Some.value (omega (arith, c.facts.ensures.least)) c.power.ensures c.in_ok-value-in-Some.ensures.value)
