@@ -1,6 +1,6 @@
 -- The answer to a system has its common zeros alone, and all of them where it isn't stopped.
 use Rattle.zero_sets.specs.Tasks.{InTask}
-use Rattle.impose_rules.specs.Leaves.{InLeaf}
+use Rattle.finish_rules.specs.Leaves.{InLeaf}
 use Rattle.case_rules.specs.Cases.{case_step, root_place}
 use Rattle.tree_laws.proofs.Cover.{answers_cover_the_root}
 use Rattle.tree_laws.proofs.Emitted.{answers_are_emitted}

@@ -6,7 +6,7 @@ use Rattle.polynomials.specs.Views.{degree_in}
 use Rattle.polynomials.proofs.ExponentsBelow.{degree_in-past}
 use Rattle.zero_sets.specs.Tasks.{InTask}
 use Rattle.zero_sets.specs.Systems.{PolynomialSystem}
-use Rattle.impose_rules.specs.Leaves.{leaf_of, InLeaf}
+use Rattle.finish_rules.specs.Leaves.{leaf_of, InLeaf}
 use Rattle.zero_sets.specs.Residues.{residues}
 use Rattle.case_rules.specs.Cases.{root_task}
 use Rattle.case_laws.specs.Lawful.{IsLawfulPolynomial, IsLawfulSystem, IsLawfulLeaf, IsLawfulTask}

@@ -9,7 +9,7 @@ use Rattle.split_paths.specs.declared.splitter.Step.{Step}
 use Rattle.split_paths.specs.declared.splitter.Step.TheVariants.{Gone, Emit, TooWide, Kids}
 use Rattle.split_paths.specs.Lawful.{IsLawfulStep}
 use Rattle.impose_rules.specs.Impose.{impose_children, impose_step, step_to_fitting}
-use Rattle.impose_rules.specs.Leaves.{Leaf}
+use Rattle.finish_rules.specs.Leaves.{Leaf}
 use Rattle.impose_rules.proofs.Lists.{each_implied}
 use Rattle.impose_laws.specs.TaskForms.{KeepsForm}
 use Rattle.impose_laws.proofs.FewChildren.{children_are_few}

@@ -7,7 +7,7 @@ use Rattle.zero_sets.specs.Domains.{Tables, IsPointOver, value_at}
 use Rattle.zero_sets.specs.ZeroSets.{InZeroSet, AreNonZero, InQuasiComponent}
 use Rattle.zero_sets.specs.Tasks.{Task, InTask}
 use Rattle.impose_rules.specs.Impose.{impose_children, step_to_fitting}
-use Rattle.impose_rules.specs.Leaves.{InLeaf}
+use Rattle.finish_rules.specs.Leaves.{InLeaf}
 use Rattle.impose_laws.proofs.Cover.{children_cover_the_task}
 use Rattle.row_laws.proofs.ReductionValues.{reductions_keep_zeros, reduced_to_zero_vanishes}
 use Rattle.finish_rules.specs.Remainders.{remainder_of}

@@ -3,7 +3,7 @@ use Rattle.std.specs.Prelude.{ℕ}
 use Rattle.polynomials.specs.Primes.{IsPrime}
 use Rattle.zero_sets.specs.Systems.{PolynomialSystem}
 use Rattle.zero_sets.specs.Tasks.{Task}
-use Rattle.impose_rules.specs.Leaves.{Leaf, chain_of}
+use Rattle.finish_rules.specs.Leaves.{Leaf, chain_of}
 pub use Rattle.finish_laws.specs.Lawful.{IsLawfulPolynomial, AreLawfulPolynomials, IsLawfulChain}
 
 -- a system of lawful polynomials, modulo a prime

@@ -9,7 +9,7 @@ use Rattle.zero_sets.specs.Tasks.{Task, InTask}
 use Rattle.split_paths.specs.declared.splitter.Step.TheVariants.{Gone}
 use Rattle.split_paths.specs.Answer.{Answer, answer_of}
 use Rattle.split_paths.specs.Tree.{events_of}
-use Rattle.impose_rules.specs.Leaves.{Leaf, chain_of, InLeaf}
+use Rattle.finish_rules.specs.Leaves.{Leaf, chain_of, InLeaf}
 use Rattle.case_rules.specs.Cases.{case_step, root_task, root_place}
 use Rattle.tree_laws.specs.Points.{IsKeptBy, IfEmitted}
 use Rattle.tree_laws.specs.Laws.{KeepsLaw}

@@ -13,7 +13,7 @@ use Rattle.split_paths.specs.Answer.{Answer, answer_of}
 use Rattle.split_paths.specs.Tree.{events_of}
 use Rattle.zero_sets.specs.Systems.{PolynomialSystem}
 use Rattle.zero_sets.specs.Tasks.{Task}
-use Rattle.impose_rules.specs.Leaves.{Leaf}
+use Rattle.finish_rules.specs.Leaves.{Leaf}
 use Rattle.case_rules.specs.Cases.{case_step, root_task, root_place}
 use Rattle.case_rules.specs.Finish.{finish_step}
 

@@ -8,7 +8,7 @@ use Rattle.split_paths.specs.declared.splitter.Step.{Step}
 use Rattle.split_paths.specs.Places.{Place}
 use Rattle.impose_rules.specs.Impose.{impose_step}
 use Rattle.impose_rules.specs.Leads.{with_all_nonzero}
-use Rattle.impose_rules.specs.Leaves.{Leaf}
+use Rattle.finish_rules.specs.Leaves.{Leaf}
 use Rattle.case_rules.specs.Finish.{finish_step}
 
 -- by its queue: its first polynomial is imposed, or the task is finished

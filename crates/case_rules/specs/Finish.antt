@@ -6,7 +6,7 @@ use Rattle.zero_sets.specs.Tasks.{Task}
 use Rattle.division_rules.specs.Within.{and_then}
 use Rattle.split_paths.specs.declared.splitter.Step.{Step}
 use Rattle.split_paths.specs.declared.splitter.Step.TheVariants.{Gone, Emit, TooWide, Kids}
-use Rattle.impose_rules.specs.Leaves.{Leaf, leaf_of}
+use Rattle.finish_rules.specs.Leaves.{Leaf, leaf_of}
 use Rattle.finish_rules.specs.Remainders.{remainder_of}
 
 -- in n variables modulo p, with products within the width w, by a triangular set

@@ -5,7 +5,7 @@ use Rattle.mono_words.specs.declared.mono.TheConstants.{VARS}
 use Rattle.polynomials.specs.Polynomials.{Polynomial, is_zero}
 use Rattle.zero_sets.specs.Tasks.{Task}
 use Rattle.split_paths.specs.declared.splitter.Step.{Step}
-use Rattle.impose_rules.specs.Leaves.{Leaf}
+use Rattle.finish_rules.specs.Leaves.{Leaf}
 use Rattle.case_rules.specs.Finish.{finish_step}
 use Rattle.case_rules.specs.Cases.{root_task, step_by_queue}
 use Rattle.case_laws.specs.Laws.{HasSolutions}

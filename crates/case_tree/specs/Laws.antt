@@ -3,7 +3,7 @@ use Rattle.std.specs.Prelude.{ℕ, List}
 use Rattle.zero_sets.specs.Domains.{Tables, IsPointOver}
 use Rattle.zero_sets.specs.ZeroSets.{InZeroSet}
 use Rattle.zero_sets.specs.Tasks.{Task, InTask}
-use Rattle.impose_rules.specs.Leaves.{InLeaf}
+use Rattle.finish_rules.specs.Leaves.{InLeaf}
 use Rattle.tree_laws.specs.Points.{IsKeptBy, IfEmitted}
 use Rattle.case_laws.specs.Laws.{IsSoundLeaf}
 use Rattle.case_tree.specs.Systems.{CaseSystem, IsTaskOf, polynomial_system_of, step_of}

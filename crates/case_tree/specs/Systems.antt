@@ -4,7 +4,7 @@ use Rattle.mono_words.specs.declared.mono.TheConstants.{VARS}
 use Rattle.zero_sets.specs.Systems.{PolynomialSystem}
 use Rattle.zero_sets.specs.Tasks.{Task}
 use Rattle.split_paths.specs.declared.splitter.Step.{Step}
-use Rattle.impose_rules.specs.Leaves.{Leaf}
+use Rattle.finish_rules.specs.Leaves.{Leaf}
 use Rattle.case_rules.specs.Cases.{case_step}
 use Rattle.case_laws.specs.Lawful.{IsLawfulSystem, IsLawfulTask, IsLawfulLeaf}
 use Rattle.system_text.specs.Lines.{TextSystem}

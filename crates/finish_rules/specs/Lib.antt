@@ -3,3 +3,4 @@ pub mod Identities
 pub mod Turns
 pub mod Initials
 pub mod Checks
+pub mod Leaves

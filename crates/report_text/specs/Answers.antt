@@ -4,7 +4,7 @@ use Rattle.std.specs.List.{flat_map}
 use Rattle.polynomials.specs.Polynomials.{Polynomial}
 use Rattle.split_paths.specs.Answer.{Answer}
 use Rattle.split_paths.specs.declared.event.Why.{Why}
-use Rattle.impose_rules.specs.Leaves.{Leaf, chain_of}
+use Rattle.finish_rules.specs.Leaves.{Leaf, chain_of}
 use Rattle.report_text.specs.Lines.{nonzero_line, plain_chain_text, end_line, stopped_line}
 
 -- the polynomials that must not vanish

@@ -5,7 +5,7 @@ use Rattle.split_paths.specs.declared.event.Event.{Event}
 use Rattle.split_paths.specs.declared.event.Event.TheVariants as event
 use Rattle.split_paths.specs.declared.event.Outcome.{Outcome}
 use Rattle.split_paths.specs.declared.event.Outcome.TheVariants.{Chain}
-use Rattle.impose_rules.specs.Leaves.{Leaf, chain_of}
+use Rattle.finish_rules.specs.Leaves.{Leaf, chain_of}
 use Rattle.report_text.specs.Polynomials.{IsInLeast}
 use Rattle.report_text.specs.Answers.{is_stopped}
 use Rattle.solver_reports.specs.Walks.{Front, later_text}

@@ -3,7 +3,7 @@ use Rattle.std.specs.Prelude.{ℕ, ◌+◌, Bool, List, ◌++◌, length}
 use Rattle.std.specs.List.{flat_map}
 use Rattle.polynomials.specs.Polynomials.{Polynomial}
 use Rattle.split_paths.specs.Answer.{Answer}
-use Rattle.impose_rules.specs.Leaves.{Leaf}
+use Rattle.finish_rules.specs.Leaves.{Leaf}
 use Rattle.report_text.specs.Answers.{answer_text, is_stopped, last_line, leaf_text}
 
 -- a text, and whether it ends at a branch that was stopped

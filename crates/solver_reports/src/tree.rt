@@ -1,7 +1,7 @@
 ghost use Rattle.std.specs.Prelude.{◌≡◌, length, map, IfOk, All, string_bytes};
 ghost use Rattle.split_paths.specs.Answer.{answer_of};
 ghost use Rattle.split_paths.specs.Tree.{events_of, events_to_come};
-ghost use Rattle.impose_rules.specs.Leaves.{Leaf};
+ghost use Rattle.finish_rules.specs.Leaves.{Leaf};
 ghost use Rattle.report_text.specs.Polynomials.{IsInLeast};
 ghost use Rattle.solver_reports.specs.Walks.{walk_of};
 ghost use Rattle.solver_reports.specs.Growth.{IsPrintableLeaf};

@@ -7,7 +7,7 @@ use Rattle.report_text.specs.declared.status.Status.{Status}
 use Rattle.report_text.specs.declared.status.Status.TheVariants.{Chains, Stopped}
 use Rattle.report_text.specs.Answers.{answer_text}
 use Rattle.split_paths.specs.Answer.{Answer}
-use Rattle.impose_rules.specs.Leaves.{Leaf}
+use Rattle.finish_rules.specs.Leaves.{Leaf}
 use Rattle.case_laws.specs.Laws.{IsLawfulAnswer, IsSoundAnswer, IsCompleteAnswer}
 use Rattle.case_tree.specs.Systems.{IsSolvable, polynomial_system_of}
 use Rattle.run_rules.specs.Programs.{Ending, IsInput}

@@ -10,7 +10,7 @@ use Rattle.report_text.specs.Lines.{refused_line, too_long_line, usage_line}
 use Rattle.report_text.specs.Answers.{answer_text, is_stopped}
 use Rattle.run_rules.specs.Programs.{Ending, Program}
 use Rattle.split_paths.specs.Answer.{Answer}
-use Rattle.impose_rules.specs.Leaves.{Leaf}
+use Rattle.finish_rules.specs.Leaves.{Leaf}
 use Rattle.case_laws.specs.Laws.{answer_to}
 use Rattle.case_tree.specs.Systems.{polynomial_system_of}
 
