@@ -1,7 +1,6 @@
 -- Steps that lose no point of a task.
 use Rattle.std.specs.Prelude.{ℕ, List, []}
 use Rattle.std.specs.List.{Any}
-use Rattle.polynomials.specs.Polynomials.{Polynomial}
 use Rattle.zero_sets.specs.Domains.{Tables, IsPointOver}
 use Rattle.zero_sets.specs.Tasks.{Task, InTask}
 use Rattle.split_paths.specs.declared.splitter.Step.{Step}
@@ -15,7 +14,7 @@ AreCovering p task kids =
 
 -- the children cover the task, which has no points where it is gone; no leaf is emitted, and where
 -- a product doesn't fit nothing is said
-abbrev pub CoversTask : ℕ → Task → Step Task (List Polynomial) → Type 0
+abbrev pub CoversTask : {L : Type 0} → ℕ → Task → Step Task L → Type 0
 CoversTask p task Gone = AreCovering p task []
 CoversTask p task (Emit leaf) = ⊥
 CoversTask p task TooWide = Unit {0}

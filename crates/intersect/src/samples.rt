@@ -145,7 +145,7 @@ fn gives(
     if task.queue.is_empty() {
         return Ok(false);
     }
-    let step = impose(alloc, w, task)?;
+    let step: Step<Task, Chain> = impose(alloc, w, task)?;
     crosses(&step);
     Ok(step_is(alloc, field, &step, kids)?)
 }

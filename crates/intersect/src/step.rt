@@ -9,7 +9,7 @@ ghost use Rattle.intersect.specs.Covers.{CoversTask};
 
 use crate::head::reduced_head;
 use crate::rows::children_at;
-use chains::{Chain, Task};
+use chains::Task;
 use mono_words::VARS;
 use sparse_poly::{Poly, Work};
 use split_paths::{Step, Tasks};
@@ -20,8 +20,9 @@ use std::alloc::{AllocError, Global};
 /// the task; where it is another constant, there is none. Else in the first child no lead vanishes,
 /// and its chain has a member at the main variable: the polynomial itself where there was none, and
 /// else the last of the remainder rows of the member there and the polynomial, provided that a zero
-/// row follows. Each lead that may vanish, the initial among them, makes a further child.
-pub fn impose(alloc: Global, w: Work, task: Task) -> Result<Step<Task, Chain>, AllocError>
+/// row follows. Each lead that may vanish, the initial among them, makes a further child. No leaf is
+/// emitted, whatever leaves are.
+pub fn impose<L>(alloc: Global, w: Work, task: Task) -> Result<Step<Task, L>, AllocError>
     requires over { IsTaskOver w.field VARS task }
     requires queue { task.queue ≢ [] }
     ensures step { IfOk result (λ made. (f : Polynomial) (rest : List Polynomial)
@@ -51,7 +52,7 @@ pub fn impose(alloc: Global, w: Work, task: Task) -> Result<Step<Task, Chain>, A
 }
 
 /// Imposes `f` on what is left of a task.
-fn imposed(alloc: Global, w: &Work, f: &Poly, left: Task) -> Result<Step<Task, Chain>, AllocError>
+fn imposed<L>(alloc: Global, w: &Work, f: &Poly, left: Task) -> Result<Step<Task, L>, AllocError>
     requires over { IsTaskOver w.now.field VARS left }
     requires head { IsPolynomial w.now.field VARS f.now }
     ensures { IfOk result (λ made. made
@@ -64,7 +65,7 @@ fn imposed(alloc: Global, w: &Work, f: &Poly, left: Task) -> Result<Step<Task, C
 }
 
 /// The step to these children.
-fn step_to_fitting(kids: Option<Tasks<Task>>) -> Step<Task, Chain>
+fn step_to_fitting<L>(kids: Option<Tasks<Task>>) -> Step<Task, L>
     ensures { result ≡ step_to_fitting kids }
 {
     match kids {
