@@ -4,6 +4,7 @@ ghost use Rattle.polynomials.specs.Polynomials.{IsPolynomial};
 ghost use Rattle.polynomials.specs.Views.{degree_in};
 ghost use Rattle.division_rules.specs.Quotients.{quotient_within};
 
+use crate::boxed::confirmed;
 use crate::rest::Rest;
 use crate::single::divided_by_term;
 use mono_words::{Mono, VARS};
@@ -29,9 +30,11 @@ pub fn divided(
     ensures none { IfOk result (λ r. IfNone r (quotient_within w.field w.width a.now b.now ≡ None)) }
 {
     if b.term_count() == 1 {
-        divided_by_term(alloc, w, a, b)
-    } else {
-        divided_by_terms(alloc, w, a, b, room)
+        return divided_by_term(alloc, w, a, b);
+    }
+    match confirmed(alloc, w.field, w.width, a, b)? {
+        Some(terms) => Ok(Some(terms)),
+        None => divided_by_terms(alloc, w, a, b, room),
     }
 }
 

@@ -1,6 +1,7 @@
 //! Exact quotients of sparse polynomials that fit a width, and removal of factors.
 #![tactic(auto)]
 
+mod boxed;
 mod division;
 mod factors;
 mod last;
