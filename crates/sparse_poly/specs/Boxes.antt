@@ -45,13 +45,13 @@ from_slots p [] = []
 from_slots p (slot ∷ slots) = from_slots p slots ++ with_first (term slot.0 (slot.1 % p)) []
 
 -- the monomial at a place of a list of terms
-abbrev pub monomial_at : List Term → ℕ → Monomial
-monomial_at terms k = (get_or terms k (term [] 0)).0
+abbrev pub monomial_of : List Term → ℕ → Monomial
+monomial_of terms k = (get_or terms k (term [] 0)).0
 
 -- what a slot stands for: its sum beside the product of the monomials at its two places
 abbrev pub slot_term : List Term → List Term → Slot → Term
 slot_term short long slot =
-    term (monomial_product (monomial_at short slot.left) (monomial_at long slot.right)) slot.sum
+    term (monomial_product (monomial_of short slot.left) (monomial_of long slot.right)) slot.sum
 
 -- each slot has places of both factors
 abbrev pub HavePlaces : List Term → List Term → List Slot → Type 0
