@@ -1,0 +1,4 @@
+pub mod Entries
+pub mod Combinations
+pub mod Members
+pub mod Laws
