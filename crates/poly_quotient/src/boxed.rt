@@ -7,6 +7,9 @@ use mono_words::{Mono, VARS};
 use sparse_poly::{Poly, Work};
 use std::alloc::{AllocError, Global};
 
+/// The fewest terms of a dividend that is divided in a box.
+const FEWEST_TERMS: usize = 32;
+
 /// The most places of a box.
 const MOST_PLACES: usize = 1 << 22;
 
@@ -58,7 +61,7 @@ fn candidate(
     let (Some(first), Some(lead)) = (a.first(), b.first()) else {
         return Ok(None);
     };
-    if !lead.0.divides(first.0) {
+    if a.len() < FEWEST_TERMS || !lead.0.divides(first.0) {
         return Ok(None);
     }
     match sides_of(alloc, high, a.len())? {
