@@ -1,20 +1,25 @@
 -- All inputs vanish on the quasi-component of a triangular set that is emitted.
-use Rattle.std.proofs.Common.{◌≡◌, ℕ, Bool, true, false, List, [], ◌∷◌, Option, Some, None, refl, sym}
+use Rattle.std.proofs.Common.{◌≡◌, ℕ, Bool, true, false, List, [], ◌∷◌, Option, Some, None, sym}
 use Rattle.polynomials.specs.Primes.{IsPrime}
 use Rattle.polynomials.specs.Polynomials.{Polynomial, IsPolynomial, ArePolynomials}
 use Rattle.zero_sets.specs.Domains.{value_at}
 use Rattle.zero_sets.specs.Tasks.{Task}
+use Rattle.finish_rules.specs.Leaves.{Leaf}
 use Rattle.impose_rules.specs.Impose.{impose_children, step_to_fitting}
 use Rattle.impose_rules.proofs.ChainParts.{each_canonical}
 use Rattle.impose_rules.proofs.Lists.{each_implied}
 use Rattle.row_laws.proofs.ReductionValues.{reduced_to_zero_vanishes}
 use Rattle.finish_rules.specs.Remainders.{remainder_of}
-use Rattle.case_rules.specs.Finish.{has_zero_remainder, first_remainder, step_by_remainder, step_by_nonzero}
+use Rattle.case_rules.specs.Finish.{has_zero_remainder, first_remainder, imposing, step_by_remainder, step_by_inputs, step_by_nonzero}
 use Rattle.case_rules.specs.Cases.{step_by_queue}
 use Rattle.split_paths.specs.declared.splitter.Step.{Step}
 use Rattle.split_paths.specs.declared.splitter.Step.TheVariants.{Gone, Emit, TooWide, Kids}
 use Rattle.split_paths.specs.Lawful.{IsLawfulStep}
 use Rattle.tree_laws.specs.Points.{IfEmitted}
+use Rattle.tree_laws.specs.Steps.{with_each_kid}
+use Rattle.tree_laws.proofs.Steps.{fitting_holds, emitted_emits}
+use Rattle.zero_sets.specs.Certificates.{Certificate}
+use Rattle.finish_rules.specs.Initials.{certified}
 use Rattle.case_laws.specs.Laws.{IsInZeroSet, IsSoundLeaf, EmittedLeavesAreSound}
 use Rattle.finish_laws.proofs.Parts.{canonical_lawful}
 use Rattle.finish_laws.proofs.Reductions.{remainder_is}
@@ -41,16 +46,29 @@ inputs_vanish p n w prime inputs chain are_inputs are none r xs at inside = each
 pub emitted_leaves_are_sound : EmittedLeavesAreSound
 emitted_leaves_are_sound n k w system task lawful of_task = by_queue task.queue
   where
-    remainders_emit : (found : Option (Option Polynomial)) → first_remainder system.prime n w task.chain system.inputs ≡ found → IfEmitted (IsSoundLeaf system) (step_by_remainder system.prime n w task.chain task.nonzero found)
-    remainders_emit None e = tt
-    remainders_emit (Some None) e = inputs_vanish system.prime n w lawful.prime system.inputs task.chain (canonical_lawful system.prime n k system.inputs lawful.inputs) (canonical_lawful system.prime n k task.chain of_task.chain.lawful) e
-    remainders_emit (Some (Some r)) e = tt
+    are : ArePolynomials system.prime n task.chain
+    are = canonical_lawful system.prime n k task.chain of_task.chain.lawful
 
-    finish_emits : (found : Option Bool) → IfEmitted (IsSoundLeaf system) (step_by_nonzero system.prime n w task.chain system.inputs task.nonzero found)
-    finish_emits None = tt
-    finish_emits (Some true) = tt
-    finish_emits (Some false) = remainders_emit (first_remainder system.prime n w task.chain system.inputs) refl
+    Emits : Step Task Leaf → Type 0
+    Emits made = IfEmitted (IsSoundLeaf system) made
 
-    by_queue : (queue : List Polynomial) → IfEmitted (IsSoundLeaf system) (step_by_queue n w system task queue)
-    by_queue [] = finish_emits (has_zero_remainder system.prime n w task.chain task.nonzero)
+    remainders_emit : (cs : List Certificate) (found : Option Polynomial) → first_remainder system.prime n w task.chain system.inputs ≡ Some found → Emits (step_by_remainder task.chain task.nonzero cs found)
+    remainders_emit cs None e = inputs_vanish system.prime n w lawful.prime system.inputs task.chain (canonical_lawful system.prime n k system.inputs lawful.inputs) are e
+    remainders_emit cs (Some r) e = tt
+
+    inputs_emit : (cs : List Certificate) → Emits (step_by_inputs system.prime n w task.chain task.nonzero system.inputs cs)
+    inputs_emit cs = fitting_holds Emits (first_remainder system.prime n w task.chain system.inputs) (λ found. step_by_remainder task.chain task.nonzero cs found) tt (remainders_emit cs)
+
+    anything_emitted : (made : Step Task (List Certificate)) → IfEmitted (λ cs. Unit {0}) made
+    anything_emitted Gone = tt
+    anything_emitted (Emit cs) = tt
+    anything_emitted TooWide = tt
+    anything_emitted (Kids kids) = tt
+
+    nonzero_emit : (zero : Bool) → Emits (step_by_nonzero system.prime n w task.chain task.nonzero system.inputs zero)
+    nonzero_emit true = tt
+    nonzero_emit false = emitted_emits (λ (cs : List Certificate). Unit {0}) (IsSoundLeaf system) (with_each_kid (imposing task.chain task.nonzero) (certified system.prime n w task.chain task.nonzero task.chain)) (λ cs. step_by_inputs system.prime n w task.chain task.nonzero system.inputs cs) (anything_emitted (with_each_kid (imposing task.chain task.nonzero) (certified system.prime n w task.chain task.nonzero task.chain))) (λ cs any. inputs_emit cs)
+
+    by_queue : (queue : List Polynomial) → Emits (step_by_queue n w system task queue)
+    by_queue [] = fitting_holds Emits (has_zero_remainder system.prime n w task.chain task.nonzero) (λ zero. step_by_nonzero system.prime n w task.chain task.nonzero system.inputs zero) tt (λ zero e. nonzero_emit zero)
     by_queue (f ∷ rest) = imposed_emits (IsSoundLeaf system) (impose_children system.prime n w task.chain rest task.nonzero f)

@@ -6,7 +6,7 @@ use Rattle.polynomials.specs.Views.{degree_in}
 use Rattle.polynomials.proofs.ExponentsBelow.{degree_in-past}
 use Rattle.zero_sets.specs.Tasks.{InTask}
 use Rattle.zero_sets.specs.Systems.{PolynomialSystem}
-use Rattle.finish_rules.specs.Leaves.{leaf_of, InLeaf}
+use Rattle.finish_rules.specs.Leaves.{Leaf, InLeaf}
 use Rattle.zero_sets.specs.Residues.{residues}
 use Rattle.case_rules.specs.Cases.{root_task}
 use Rattle.case_laws.specs.Lawful.{IsLawfulPolynomial, IsLawfulSystem, IsLawfulLeaf, IsLawfulTask}
@@ -21,6 +21,10 @@ y = term (0 ∷ 1 ∷ []) 1 ∷ []
 
 abbrev x_y : Polynomial
 x_y = term (1 ∷ 1 ∷ []) 1 ∷ []
+
+-- a triangular set whose initials are constant
+abbrev plain_leaf : List Polynomial → Leaf
+plain_leaf chain = record { chain = chain; certificates = [] }
 
 -- x to the power e, in one variable
 abbrev power : ℕ → Polynomial
@@ -85,18 +89,18 @@ root_off : InTask (residues 5) (0 ∷ 3 ∷ []) (root_task 2 (system (y_less_thr
 root_off inside = inside.2.0 refl
 
 -- which the second triangular set of the answer has, and the first hasn't
-second_has : InLeaf (residues 5) (0 ∷ 3 ∷ []) (leaf_of (x ∷ []))
+second_has : InLeaf (residues 5) (0 ∷ 3 ∷ []) (plain_leaf (x ∷ []))
 second_has = ((refl, tt), ((λ none. cc), tt))
 
-first_has_not : InLeaf (residues 5) (0 ∷ 3 ∷ []) (leaf_of (y ∷ [])) → ⊥
+first_has_not : InLeaf (residues 5) (0 ∷ 3 ∷ []) (plain_leaf (y ∷ [])) → ⊥
 first_has_not inside = let zero_y = inside.0.0 in cc
 
-answer : answer_to 2 100000 10000 (system []) ≡ record { chains = ((1 ∷ []), (y ∷ [])) ∷ ((2 ∷ []), (x ∷ [])) ∷ []; stop = None }
+answer : answer_to 2 100000 10000 (system []) ≡ record { chains = ((1 ∷ []), plain_leaf (y ∷ [])) ∷ ((2 ∷ []), plain_leaf (x ∷ [])) ∷ []; stop = None }
 answer = refl
 
 -- the first is lawful, and its points are zeros of x y
-first_lawful : IsPrime 5 → IsLawfulLeaf 5 2 2 (leaf_of (y ∷ []))
-first_lawful prime = answers_are_lawful 2 2 100000 10000 (system []) (system_lawful prime) ((1 ∷ []), (y ∷ [])) (0, omega arith, refl)
+first_lawful : IsPrime 5 → IsLawfulLeaf 5 2 2 (plain_leaf (y ∷ []))
+first_lawful prime = answers_are_lawful 2 2 100000 10000 (system []) (system_lawful prime) ((1 ∷ []), plain_leaf (y ∷ [])) (0, omega arith, refl)
 
 first_sound : IsPrime 5 → IsInZeroSet 5 (x_y ∷ []) (y ∷ [])
-first_sound prime = answers_are_sound 2 2 100000 10000 (system []) (system_lawful prime) ((1 ∷ []), (y ∷ [])) (0, omega arith, refl)
+first_sound prime = answers_are_sound 2 2 100000 10000 (system []) (system_lawful prime) ((1 ∷ []), plain_leaf (y ∷ [])) (0, omega arith, refl)

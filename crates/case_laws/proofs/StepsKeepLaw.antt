@@ -14,13 +14,20 @@ use Rattle.impose_rules.proofs.Lists.{each_implied}
 use Rattle.impose_laws.specs.TaskForms.{KeepsForm}
 use Rattle.impose_laws.proofs.FewChildren.{children_are_few}
 use Rattle.impose_laws.proofs.KeptForms.{children_keep_the_form}
-use Rattle.case_rules.specs.Finish.{has_zero_remainder, first_remainder, step_by_remainder, step_by_nonzero}
+use Rattle.case_rules.specs.Finish.{has_zero_remainder, first_remainder, imposing, step_by_remainder, step_by_inputs, step_by_nonzero}
 use Rattle.case_rules.specs.Cases.{step_by_queue, case_step}
+use Rattle.zero_sets.specs.Certificates.{Certificate, AreCertificates}
+use Rattle.tree_laws.specs.Steps.{with_each_kid}
+use Rattle.tree_laws.proofs.Steps.{fitting_holds, emitted_lawful, emitted_both, changed_lawful}
+use Rattle.finish_rules.specs.Initials.{certified}
+use Rattle.finish_laws.specs.Lawful.{AreLawfulCertificates}
 use Rattle.finish_laws.proofs.LawfulRemainders.{remainder_lawful}
+use Rattle.finish_laws.proofs.LawfulSteps.{certified_keeps_law}
+use Rattle.finish_laws.proofs.EachInitial.{certified_certifies}
 use Rattle.case_laws.specs.Lawful.{IsLawfulPolynomial, IsLawfulSystem, IsLawfulLeaf, IsLawfulTask}
 use Rattle.case_laws.specs.Laws.{CaseStepsKeepLaw}
 use Rattle.case_laws.proofs.FirstRemainders.{IfRemainder, first_found}
-use Rattle.finish_laws.proofs.Parts.{AreSmall, small_lawful, lawful_parts}
+use Rattle.finish_laws.proofs.Parts.{canonical_lawful, AreSmall, small_lawful, lawful_parts}
 use Rattle.case_laws.proofs.Parts.{task_over, task_free}
 use Rattle.case_laws.proofs.SmallTasks.{AreSmallTasks, children_small}
 
@@ -54,29 +61,35 @@ module _ (p n k w : ℕ) (prime : IsPrime p) (task : Task) (lawful : IsLawfulTas
 pub case_steps_keep_law : CaseStepsKeepLaw
 case_steps_keep_law n k w system lawful task of_task = by_queue task.queue refl
   where
-    remainders_lawful : (found : Option (Option Polynomial)) → first_remainder system.prime n w task.chain system.inputs ≡ found → IsLawfulStep (IsLawfulTask system.prime n k) (IsLawfulLeaf system.prime n k) (step_by_remainder system.prime n w task.chain task.nonzero found)
-    remainders_lawful None e = tt
-    remainders_lawful (Some None) e = of_task.chain
-    remainders_lawful (Some (Some r)) e = (
-      omega arith,
-      omega arith,
-      (
-        record {
-          chain = of_task.chain;
-          queue = (first_found system.prime n w task.chain (IsLawfulPolynomial system.prime n k) system.inputs (each_implied (IsLawfulPolynomial system.prime n k) (IfRemainder system.prime n w task.chain (IsLawfulPolynomial system.prime n k)) (λ f of_f r made. remainder_lawful system.prime n k w lawful.prime task.chain of_task.chain f r of_f made) system.inputs lawful.inputs) r e, tt);
-          nonzero = of_task.nonzero;
-        },
-        tt,
-      ),
-    )
+    IsLawful : Step Task Leaf → Type 0
+    IsLawful made = IsLawfulStep (IsLawfulTask system.prime n k) (IsLawfulLeaf system.prime n k) made
 
-    finish_lawful : (found : Option Bool) → IsLawfulStep (IsLawfulTask system.prime n k) (IsLawfulLeaf system.prime n k) (step_by_nonzero system.prime n w task.chain system.inputs task.nonzero found)
-    finish_lawful None = tt
-    finish_lawful (Some true) = tt
-    finish_lawful (Some false) = remainders_lawful (first_remainder system.prime n w task.chain system.inputs) refl
+    imposing_lawful : (f : Polynomial) → IsLawfulPolynomial system.prime n k f → IsLawfulTask system.prime n k (imposing task.chain task.nonzero f)
+    imposing_lawful f of_f = record { chain = of_task.chain; queue = (of_f, tt); nonzero = of_task.nonzero }
 
-    by_queue : (queue : List Polynomial) → task.queue ≡ queue → IsLawfulStep (IsLawfulTask system.prime n k) (IsLawfulLeaf system.prime n k) (step_by_queue n w system task queue)
-    by_queue [] starts = finish_lawful (has_zero_remainder system.prime n w task.chain task.nonzero)
+    -- what is emitted before the inputs are reduced
+    Certify : List Certificate → Type 0
+    Certify cs = AreCertificates system.prime n task.chain cs × AreLawfulCertificates system.prime n k cs
+
+    remainders_lawful : (cs : List Certificate) → Certify cs → (found : Option Polynomial) → first_remainder system.prime n w task.chain system.inputs ≡ Some found → IsLawful (step_by_remainder task.chain task.nonzero cs found)
+    remainders_lawful cs of_cs None e = record { chain = of_task.chain; certify = of_cs.0; certificates = of_cs.1 }
+    remainders_lawful cs of_cs (Some r) e = (omega arith, omega arith, (imposing_lawful r (first_found system.prime n w task.chain (IsLawfulPolynomial system.prime n k) system.inputs (each_implied (IsLawfulPolynomial system.prime n k) (IfRemainder system.prime n w task.chain (IsLawfulPolynomial system.prime n k)) (λ f of_f b made. remainder_lawful system.prime n k w lawful.prime task.chain of_task.chain f b of_f made) system.inputs lawful.inputs) r e), tt))
+
+    inputs_lawful : (cs : List Certificate) → Certify cs → IsLawful (step_by_inputs system.prime n w task.chain task.nonzero system.inputs cs)
+    inputs_lawful cs of_cs = fitting_holds IsLawful (first_remainder system.prime n w task.chain system.inputs) (λ found. step_by_remainder task.chain task.nonzero cs found) tt (remainders_lawful cs of_cs)
+
+    certified_lawful : IsLawfulStep (IsLawfulPolynomial system.prime n k) Certify (certified system.prime n w task.chain task.nonzero task.chain)
+    certified_lawful = emitted_both (IsLawfulPolynomial system.prime n k) (AreLawfulCertificates system.prime n k) (AreCertificates system.prime n task.chain) Certify (λ cs of_cs certify. (certify, of_cs)) (certified system.prime n w task.chain task.nonzero task.chain) (certified_keeps_law system.prime n k w task.chain task.nonzero lawful.prime of_task.chain) (certified_certifies system.prime n w task.chain task.nonzero lawful.prime (canonical_lawful system.prime n k task.chain of_task.chain.lawful) of_task.chain.triangular)
+
+    initials_lawful : IsLawfulStep (IsLawfulTask system.prime n k) Certify (with_each_kid (imposing task.chain task.nonzero) (certified system.prime n w task.chain task.nonzero task.chain))
+    initials_lawful = changed_lawful (IsLawfulPolynomial system.prime n k) (IsLawfulTask system.prime n k) Certify (imposing task.chain task.nonzero) imposing_lawful (certified system.prime n w task.chain task.nonzero task.chain) certified_lawful
+
+    nonzero_lawful : (zero : Bool) → IsLawful (step_by_nonzero system.prime n w task.chain task.nonzero system.inputs zero)
+    nonzero_lawful true = tt
+    nonzero_lawful false = emitted_lawful (IsLawfulTask system.prime n k) Certify (IsLawfulLeaf system.prime n k) (with_each_kid (imposing task.chain task.nonzero) (certified system.prime n w task.chain task.nonzero task.chain)) (λ cs. step_by_inputs system.prime n w task.chain task.nonzero system.inputs cs) initials_lawful inputs_lawful
+
+    by_queue : (queue : List Polynomial) → task.queue ≡ queue → IsLawful (step_by_queue n w system task queue)
+    by_queue [] starts = fitting_holds IsLawful (has_zero_remainder system.prime n w task.chain task.nonzero) (λ zero. step_by_nonzero system.prime n w task.chain task.nonzero system.inputs zero) tt (λ zero e. nonzero_lawful zero)
     by_queue (f ∷ rest) starts = imposed_lawful system.prime n k w lawful.prime task of_task (IsLawfulLeaf system.prime n k) f rest starts
 
 -- the same tasks, where each is said to be one of a lawful system

@@ -3,18 +3,24 @@ use Rattle.std.proofs.Common.{◌≡◌, ℕ, Bool, true, false, List, [], ◌�
 use Rattle.std.specs.List.{AllByRecursion, Any}
 use Rattle.polynomials.specs.Primes.{IsPrime}
 use Rattle.polynomials.specs.Polynomials.{Polynomial, ArePolynomials}
+use Rattle.zero_sets.specs.Certificates.{Certificate}
 use Rattle.zero_sets.specs.Domains.{Tables, IsPointOver, value_at}
 use Rattle.zero_sets.specs.ZeroSets.{InZeroSet, AreNonZero, InQuasiComponent}
 use Rattle.zero_sets.specs.Tasks.{Task, InTask}
+use Rattle.split_paths.specs.declared.splitter.Step.{Step}
 use Rattle.impose_rules.specs.Impose.{impose_children, step_to_fitting}
-use Rattle.finish_rules.specs.Leaves.{InLeaf}
+use Rattle.finish_rules.specs.Leaves.{Leaf, InLeaf}
 use Rattle.impose_laws.proofs.Cover.{children_cover_the_task}
 use Rattle.row_laws.proofs.ReductionValues.{reductions_keep_zeros, reduced_to_zero_vanishes}
 use Rattle.finish_rules.specs.Remainders.{remainder_of}
-use Rattle.case_rules.specs.Finish.{has_zero_remainder, first_remainder, step_by_remainder, step_by_nonzero}
+use Rattle.case_rules.specs.Finish.{has_zero_remainder, first_remainder, imposing, step_by_remainder, step_by_inputs, step_by_nonzero}
 use Rattle.case_rules.specs.Cases.{step_by_queue}
 use Rattle.tree_laws.specs.Points.{IsKeptBy}
+use Rattle.tree_laws.specs.Steps.{with_each_kid}
 use Rattle.tree_laws.proofs.Some.{some_first, some_nowhere}
+use Rattle.tree_laws.proofs.Steps.{fitting_holds, emitted_kept, changed_kept}
+use Rattle.finish_rules.specs.Initials.{certified}
+use Rattle.finish_laws.proofs.EachInitial.{certified_loses_no_zero}
 use Rattle.case_laws.specs.Laws.{CaseStepsLoseNoZero}
 use Rattle.finish_laws.proofs.Parts.{canonical_lawful}
 use Rattle.case_laws.proofs.Parts.{task_over}
@@ -46,16 +52,29 @@ case_steps_lose_no_zero n k w system task r xs lawful of_task at zeros inside = 
     are : ArePolynomials system.prime n task.chain
     are = canonical_lawful system.prime n k task.chain of_task.chain.lawful
 
-    remainders_keep : (found : Option (Option Polynomial)) → first_remainder system.prime n w task.chain system.inputs ≡ found → IsKeptBy (InTask r xs) (InLeaf r xs) (step_by_remainder system.prime n w task.chain task.nonzero found)
-    remainders_keep None e = tt
-    remainders_keep (Some None) e = inside.0
-    remainders_keep (Some (Some g)) e = some_first (InTask r xs) (record { chain = task.chain; queue = g ∷ []; nonzero = task.nonzero }) [] (inside.0, (first_found system.prime n w task.chain (λ h. value_at r xs h ≡ r.nil) system.inputs (remainders_zero system.prime n w lawful.prime r xs at task.chain are inside.0 system.inputs (canonical_lawful system.prime n k system.inputs lawful.inputs) zeros) g e, tt), inside.2)
+    Kept : Step Task Leaf → Type 0
+    Kept made = IsKeptBy (InTask r xs) (InLeaf r xs) made
 
-    finish_keeps : (found : Option Bool) → has_zero_remainder system.prime n w task.chain task.nonzero ≡ found → IsKeptBy (InTask r xs) (InLeaf r xs) (step_by_nonzero system.prime n w task.chain system.inputs task.nonzero found)
-    finish_keeps None e = tt
-    finish_keeps (Some true) e = zero_found system.prime n w task.chain ⊥ task.nonzero (nonzero_remain system.prime n w lawful.prime r xs at task.chain are inside.0 task.nonzero (canonical_lawful system.prime n k task.nonzero of_task.nonzero) inside.2) e
-    finish_keeps (Some false) e = remainders_keep (first_remainder system.prime n w task.chain system.inputs) refl
+    Certified : List Certificate → Type 0
+    Certified cs = Unit {0}
 
-    by_queue : (queue : List Polynomial) → task.queue ≡ queue → IsKeptBy (InTask r xs) (InLeaf r xs) (step_by_queue n w system task queue)
-    by_queue [] starts = finish_keeps (has_zero_remainder system.prime n w task.chain task.nonzero) refl
+    imposed : (f : Polynomial) → value_at r xs f ≡ r.nil → InTask r xs (imposing task.chain task.nonzero f)
+    imposed f null = (inside.0, (null, tt), inside.2)
+
+    remainders_keep : (cs : List Certificate) (found : Option Polynomial) → first_remainder system.prime n w task.chain system.inputs ≡ Some found → Kept (step_by_remainder task.chain task.nonzero cs found)
+    remainders_keep cs None e = inside.0
+    remainders_keep cs (Some g) e = some_first (InTask r xs) (imposing task.chain task.nonzero g) [] (imposed g (first_found system.prime n w task.chain (λ h. value_at r xs h ≡ r.nil) system.inputs (remainders_zero system.prime n w lawful.prime r xs at task.chain are inside.0 system.inputs (canonical_lawful system.prime n k system.inputs lawful.inputs) zeros) g e))
+
+    inputs_keep : (cs : List Certificate) → Kept (step_by_inputs system.prime n w task.chain task.nonzero system.inputs cs)
+    inputs_keep cs = fitting_holds Kept (first_remainder system.prime n w task.chain system.inputs) (λ found. step_by_remainder task.chain task.nonzero cs found) tt (remainders_keep cs)
+
+    initials_keep : IsKeptBy (InTask r xs) Certified (with_each_kid (imposing task.chain task.nonzero) (certified system.prime n w task.chain task.nonzero task.chain))
+    initials_keep = changed_kept (λ f. value_at r xs f ≡ r.nil) (InTask r xs) Certified (imposing task.chain task.nonzero) imposed (certified system.prime n w task.chain task.nonzero task.chain) (certified_loses_no_zero system.prime n w r xs task.chain task.nonzero lawful.prime are of_task.chain.triangular (record { over = at; inside = inside.0; nonzero = inside.2 }))
+
+    nonzero_keep : (zero : Bool) → has_zero_remainder system.prime n w task.chain task.nonzero ≡ Some zero → Kept (step_by_nonzero system.prime n w task.chain task.nonzero system.inputs zero)
+    nonzero_keep true e = zero_found system.prime n w task.chain ⊥ task.nonzero (nonzero_remain system.prime n w lawful.prime r xs at task.chain are inside.0 task.nonzero (canonical_lawful system.prime n k task.nonzero of_task.nonzero) inside.2) e
+    nonzero_keep false e = emitted_kept (InTask r xs) Certified (InLeaf r xs) (with_each_kid (imposing task.chain task.nonzero) (certified system.prime n w task.chain task.nonzero task.chain)) (λ cs. step_by_inputs system.prime n w task.chain task.nonzero system.inputs cs) initials_keep (λ cs kept. inputs_keep cs)
+
+    by_queue : (queue : List Polynomial) → task.queue ≡ queue → Kept (step_by_queue n w system task queue)
+    by_queue [] starts = fitting_holds Kept (has_zero_remainder system.prime n w task.chain task.nonzero) (λ zero. step_by_nonzero system.prime n w task.chain task.nonzero system.inputs zero) tt nonzero_keep
     by_queue (f ∷ rest) starts = imposed_keeps r xs (InLeaf r xs) (impose_children system.prime n w task.chain rest task.nonzero f) (children_cover_the_task system.prime n w task f rest r xs lawful.prime (task_over system.prime n k task of_task) of_task.chain.triangular starts at inside)

@@ -9,7 +9,7 @@ use Rattle.zero_sets.specs.Tasks.{Task, InTask}
 use Rattle.split_paths.specs.declared.splitter.Step.TheVariants.{Gone}
 use Rattle.split_paths.specs.Answer.{Answer, answer_of}
 use Rattle.split_paths.specs.Tree.{events_of}
-use Rattle.finish_rules.specs.Leaves.{Leaf, chain_of, InLeaf}
+use Rattle.finish_rules.specs.Leaves.{Leaf, InLeaf}
 use Rattle.case_rules.specs.Cases.{case_step, root_task, root_place}
 use Rattle.tree_laws.specs.Points.{IsKeptBy, IfEmitted}
 use Rattle.tree_laws.specs.Laws.{KeepsLaw}
@@ -68,7 +68,7 @@ IsInZeroSet p inputs chain =
 
 -- the leaf has common zeros of the inputs alone
 abbrev pub IsSoundLeaf : PolynomialSystem → Leaf → Type 0
-IsSoundLeaf system leaf = IsInZeroSet system.prime system.inputs (chain_of leaf)
+IsSoundLeaf system leaf = IsInZeroSet system.prime system.inputs leaf.chain
 
 -- what is emitted has common zeros of the inputs alone
 abbrev pub EmittedLeavesAreSound : Type 0

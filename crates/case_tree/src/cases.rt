@@ -10,7 +10,8 @@ ghost use Rattle.case_tree.specs.Systems.{IsTaskOf, polynomial_system_of};
 
 use crate::finish::finish;
 use crate::root::root_of;
-use chains::{Chain, Task};
+use certificates::Leaf;
+use chains::Task;
 use intersect::impose;
 use mono_words::VARS;
 use sparse_poly::{Polys, System, Work};
@@ -93,7 +94,7 @@ fn facts_of(list: &Polys)
 impl Splitter for Cases {
     type Task = Task;
 
-    type Leaf = Chain;
+    type Leaf = Leaf;
 
     ghost use Rattle.std.specs.Prelude.{length};
     ghost use Rattle.mono_words.specs.declared.mono.TheConstants.{VARS};
@@ -109,7 +110,7 @@ impl Splitter for Cases {
     ghost keeps_lawful = { λ cases task lawful. system_steps_keep_law VARS
         (length cases.system.names) cases.width (polynomial_system_of cases.system) task lawful };
 
-    fn expand(&self, alloc: Global, task: Task) -> Result<Step<Task, Chain>, AllocError> {
+    fn expand(&self, alloc: Global, task: Task) -> Result<Step<Task, Leaf>, AllocError> {
         let w = self.work();
         if task.queue.is_empty() {
             finish(alloc, &w, &self.system.inputs, task)

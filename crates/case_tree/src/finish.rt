@@ -1,12 +1,14 @@
-ghost use Rattle.std.specs.Prelude.{◌≡◌, List, [], ◌∷◌, IfOk};
+ghost use Rattle.std.specs.Prelude.{◌≡◌, false, List, [], map, IfOk};
 ghost use Rattle.polynomials.specs.Polynomials.{Polynomial, ArePolynomials};
 ghost use Rattle.zero_sets.specs.ZeroSets.{IsTriangular};
 ghost use Rattle.impose_laws.specs.TaskForms.{IsTaskOver};
-ghost use Rattle.case_rules.specs.Finish.{has_zero_remainder, first_remainder, finish_step, step_by_remainder};
+ghost use Rattle.case_rules.specs.Finish.{has_zero_remainder, first_remainder, imposing, finish_step, step_by_nonzero, step_by_inputs};
 
-use chains::{Chain, Task};
+use certificates::{Certificates, Leaf};
+use chains::Task;
 use mono_words::VARS;
 use pseudo_division::reduce;
+use regularise::certified;
 use sparse_poly::{Poly, Polys, Work};
 use split_paths::{Step, Tasks};
 use std::alloc::{AllocError, Global};
@@ -17,7 +19,7 @@ pub fn finish(
     w: &Work,
     inputs: &Polys,
     task: Task,
-) -> Result<Step<Task, Chain>, AllocError>
+) -> Result<Step<Task, Leaf>, AllocError>
     requires inputs { ArePolynomials w.now.field VARS inputs.now }
     requires over { IsTaskOver w.now.field VARS task }
     requires triangular { IsTriangular task.chain }
@@ -28,48 +30,77 @@ pub fn finish(
     match has_zero_remainder(w, task.nonzero.polys(), task.chain.polys())? {
         None => Ok(Step::TooWide),
         Some(true) => Ok(Step::Gone),
-        Some(false) => finish_inputs(alloc, w, inputs, task),
+        Some(false) => finish_initials(alloc, w, inputs, task),
     }
 }
 
-/// The step where no polynomial that doesn't vanish reduces to 0.
+/// The step where no polynomial that doesn't vanish reduces to 0: the initials are certified first.
+fn finish_initials(
+    alloc: Global,
+    w: &Work,
+    inputs: &Polys,
+    task: Task,
+) -> Result<Step<Task, Leaf>, AllocError>
+    requires inputs { ArePolynomials w.now.field VARS inputs.now }
+    requires over { IsTaskOver w.now.field VARS task }
+    requires triangular { IsTriangular task.chain }
+    requires queue { task.queue ≡ [] }
+    ensures { IfOk result (λ made. made ≡ step_by_nonzero w.now.field VARS w.now.width task.chain
+        task.nonzero inputs.now false) }
+{
+    match certified(alloc, w, &task.chain, &task.nonzero)? {
+        Step::Gone => Ok(Step::Gone),
+        Step::TooWide => Ok(Step::TooWide),
+        Step::Kids(fs) => Ok(Step::Kids(imposing_each(alloc, &task, &fs)?)),
+        Step::Emit(certificates) => finish_inputs(alloc, w, inputs, task, certificates),
+    }
+}
+
+/// The step where the initials have these certificates.
 fn finish_inputs(
     alloc: Global,
     w: &Work,
     inputs: &Polys,
     task: Task,
-) -> Result<Step<Task, Chain>, AllocError>
+    certificates: Certificates,
+) -> Result<Step<Task, Leaf>, AllocError>
     requires inputs { ArePolynomials w.now.field VARS inputs.now }
     requires over { IsTaskOver w.now.field VARS task }
     requires triangular { IsTriangular task.chain }
     requires queue { task.queue ≡ [] }
-    ensures { IfOk result (λ made. made ≡ step_by_remainder w.now.field VARS w.now.width task.chain
-        task.nonzero (first_remainder w.now.field VARS w.now.width task.chain inputs.now)) }
+    ensures { IfOk result (λ made. made ≡ step_by_inputs w.now.field VARS w.now.width task.chain
+        task.nonzero inputs.now certificates) }
 {
     match first_remainder(w, inputs, task.chain.polys())? {
         None => Ok(Step::TooWide),
-        Some(None) => Ok(Step::Emit(emitted(task))),
-        Some(Some(remainder)) => Ok(Step::Kids(imposing(alloc, task, remainder)?)),
+        Some(None) => Ok(Step::Emit(emitted(task, certificates))),
+        Some(Some(remainder)) => {
+            let mut kids = Tasks::new(alloc);
+            kids.push(imposing(task, remainder)?)?;
+            Ok(Step::Kids(kids))
+        }
     }
 }
 
-/// The triangular set of a task.
-fn emitted(task: Task) -> Chain
-    ensures { result ≡ task.chain }
+/// The triangular set of a task, with certificates.
+fn emitted(task: Task, certificates: Certificates) -> Leaf
+    ensures { result ≡ record { chain = task.chain; certificates = certificates } }
 {
     let Task {
         chain,
         queue: _,
         nonzero: _,
     } = task;
-    chain
+    Leaf {
+        chain,
+        certificates,
+    }
 }
 
-/// The one child that imposes a remainder.
-fn imposing(alloc: Global, task: Task, remainder: Poly) -> Result<Tasks<Task>, AllocError>
+/// The task that imposes one polynomial.
+fn imposing(task: Task, f: Poly) -> Result<Task, AllocError>
     requires { task.queue ≡ [] }
-    ensures { IfOk result (λ kids.
-        kids ≡ record { chain = task.chain; queue = remainder ∷ []; nonzero = task.nonzero } ∷ []) }
+    ensures { IfOk result (λ kid. kid ≡ imposing task.chain task.nonzero f) }
 {
     let Task {
         chain,
@@ -77,13 +108,25 @@ fn imposing(alloc: Global, task: Task, remainder: Poly) -> Result<Tasks<Task>, A
         nonzero,
     } = task;
     let mut queue = queue;
-    queue.push(remainder)?;
-    let mut kids = Tasks::new(alloc);
-    kids.push(Task {
+    queue.push(f)?;
+    Ok(Task {
         chain,
         queue,
         nonzero,
-    })?;
+    })
+}
+
+/// The tasks that impose one of several polynomials, in their order.
+fn imposing_each(alloc: Global, task: &Task, fs: &Polys) -> Result<Tasks<Task>, AllocError>
+    requires { task.now.queue ≡ [] }
+    ensures { IfOk result (λ kids.
+        kids ≡ map (imposing task.now.chain task.now.nonzero) fs.now) }
+{
+    let mut kids = Tasks::new(alloc);
+    for i in 0..fs.count() {
+        let kid = imposing(task.copy(alloc)?, fs.at(i).copy()?)?;
+        kids.push(kid)?;
+    }
     Ok(kids)
 }
 

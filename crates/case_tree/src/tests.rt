@@ -2,6 +2,7 @@ ghost use Rattle.std.specs.Prelude.{◌≡◌, ◌≤◌, IfOk};
 ghost use Rattle.case_tree.specs.Systems.{IsTaskOf};
 
 use super::*;
+use certificates::Leaf;
 use chains::{Chain, NonZero, Task};
 use sparse_poly::{Poly, Polys};
 use split_paths::{Splitter, Step};
@@ -85,7 +86,7 @@ fn expanded<X: Splitter>(
 }
 
 /// What a step is called.
-fn called(step: &Step<Task, Chain>) -> &'static str {
+fn called(step: &Step<Task, Leaf>) -> &'static str {
     match step {
         Step::Gone => "gone",
         Step::Emit(_) => "emitted",

@@ -4,10 +4,12 @@
 mod certificate;
 mod checks;
 mod composition;
+mod leaf;
 
 pub use certificate::{Certificate, Certificates};
 pub use checks::check;
 pub use composition::compose;
+pub use leaf::Leaf;
 
 #[cfg(test)]
 mod tests;

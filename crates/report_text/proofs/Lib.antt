@@ -9,3 +9,4 @@ pub mod TreeValues
 pub mod TreeLimits
 pub mod Spelling
 pub mod NonzeroLines
+mod CertificateLines

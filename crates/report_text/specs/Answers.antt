@@ -4,8 +4,9 @@ use Rattle.std.specs.List.{flat_map}
 use Rattle.polynomials.specs.Polynomials.{Polynomial}
 use Rattle.split_paths.specs.Answer.{Answer}
 use Rattle.split_paths.specs.declared.event.Why.{Why}
-use Rattle.finish_rules.specs.Leaves.{Leaf, chain_of}
-use Rattle.report_text.specs.Lines.{nonzero_line, plain_chain_text, end_line, stopped_line}
+use Rattle.finish_rules.specs.Leaves.{Leaf}
+use Rattle.report_text.specs.Lines.{nonzero_line, end_line, stopped_line}
+use Rattle.report_text.specs.Certified.{chain_text}
 
 -- the polynomials that must not vanish
 abbrev pub nonzero_text : List (List ℕ) → List Polynomial → List ℕ
@@ -13,7 +14,7 @@ nonzero_text names nonzero = flat_map (nonzero_line names) nonzero
 
 -- a leaf with its path
 abbrev pub leaf_text : List (List ℕ) → (List ℕ × Leaf) → List ℕ
-leaf_text names leaf = plain_chain_text names leaf.0 (chain_of leaf.1)
+leaf_text names leaf = chain_text names leaf.0 leaf.1.chain leaf.1.certificates
 
 -- the last line: how many chains there are, or where a branch was stopped
 abbrev pub last_line : ℕ → Option (List ℕ × Why) → List ℕ

@@ -11,7 +11,7 @@ use std::test::Fail;
 use system_parser::ParseError;
 
 /// The names of a line of names, the least first.
-fn names_of(alloc: Global, line: &str) -> Result<Names, AllocError> {
+pub(crate) fn names_of(alloc: Global, line: &str) -> Result<Names, AllocError> {
     let mut names = Names::new(alloc);
     for name in line.split(' ') {
         names.push(String::from_str(alloc, name)?)?;
@@ -31,7 +31,7 @@ fn monomial(exponents: &[u16]) -> Mono {
 }
 
 /// The sum of terms with these coefficients and exponents.
-fn poly(alloc: Global, f: Field, terms: &[(u32, [u16; 4])]) -> Result<Poly, AllocError> {
+pub(crate) fn poly(alloc: Global, f: Field, terms: &[(u32, [u16; 4])]) -> Result<Poly, AllocError> {
     let mut list = Vec::new(alloc);
     for (c, exponents) in terms {
         if *c < f.prime() {
@@ -42,7 +42,7 @@ fn poly(alloc: Global, f: Field, terms: &[(u32, [u16; 4])]) -> Result<Poly, Allo
 }
 
 /// Whether only the `k` least variables occur.
-fn is_in_least(k: usize, f: &Poly) -> bool
+pub(crate) fn is_in_least(k: usize, f: &Poly) -> bool
     ensures { IsTrue result → IsInLeast k f.now }
 {
     // Tells that there are `VARS` variables.
@@ -56,7 +56,7 @@ fn is_in_least(k: usize, f: &Poly) -> bool
 }
 
 /// Whether that holds of each of them.
-fn are_in_least(k: usize, polys: &Polys) -> bool
+pub(crate) fn are_in_least(k: usize, polys: &Polys) -> bool
     ensures { IsTrue result → All (IsInLeast k) polys.now }
 {
     for i in 0..polys.count() {

@@ -5,14 +5,17 @@ use Rattle.split_paths.specs.declared.event.Event.{Event}
 use Rattle.split_paths.specs.declared.event.Event.TheVariants as event
 use Rattle.split_paths.specs.declared.event.Outcome.{Outcome}
 use Rattle.split_paths.specs.declared.event.Outcome.TheVariants.{Chain}
-use Rattle.finish_rules.specs.Leaves.{Leaf, chain_of}
+use Rattle.finish_rules.specs.Leaves.{Leaf}
 use Rattle.report_text.specs.Polynomials.{IsInLeast}
+use Rattle.report_text.specs.Certified.{IsNamedCertificate}
 use Rattle.report_text.specs.Answers.{is_stopped}
 use Rattle.solver_reports.specs.Walks.{Front, later_text}
 
--- each variable that occurs in the chain has one of k names
-abbrev pub IsPrintableLeaf : ℕ → Leaf → Type 0
-IsPrintableLeaf k leaf = All (IsInLeast k) (chain_of leaf)
+-- each variable that occurs in the chain or in a certificate has one of k names, and certificates
+-- have as many cofactors as there are polynomials below
+pub record IsPrintableLeaf (k : ℕ) (leaf : Leaf) : Type 0 where
+  pub chain : All (IsInLeast k) leaf.chain
+  pub certificates : All (IsNamedCertificate k leaf.chain) leaf.certificates
 
 -- what is emitted is printable
 abbrev pub IsPrintableOutcome : ℕ → Outcome Leaf → Type 0

@@ -4,8 +4,8 @@ ghost use Rattle.report_text.specs.Lines.{end_line, stopped_line};
 ghost use Rattle.report_text.specs.Answers.{leaf_text, nonzero_text};
 ghost use Rattle.solver_reports.specs.Growth.{IsPrintableLeaf, IsPrintableEvent, Grows};
 
-use chains::Chain;
-use report_text::{print_end, print_nonzero, print_plain_chain, print_stopped};
+use certificates::Leaf;
+use report_text::{print_chain, print_end, print_nonzero, print_stopped};
 use sparse_poly::{Names, Polys};
 use split_paths::{Event, Outcome, Path, Why};
 use std::alloc::{AllocError, Global};
@@ -49,7 +49,7 @@ impl Report {
         &mut self,
         alloc: Global,
         names: &Names,
-        event: Event<Chain>,
+        event: Event<Leaf>,
     ) -> Result<bool, AllocError>
         requires { IsPrintableEvent (length names.now) event }
         ensures { IfOk result (Grows (map string_bytes names.now) event self.old self.new) }
@@ -58,8 +58,8 @@ impl Report {
             Event::Split { path: _, kids: _ } => Ok(false),
             Event::Leaf { path, outcome } => match outcome {
                 Outcome::Gone => Ok(false),
-                Outcome::Chain(chain) => {
-                    self.add(alloc, names, &path, &chain)?;
+                Outcome::Chain(leaf) => {
+                    self.add(alloc, names, &path, &leaf)?;
                     Ok(false)
                 }
                 Outcome::Steps => {
@@ -74,23 +74,23 @@ impl Report {
         }
     }
 
-    /// Adds a chain.
+    /// Adds a chain with its certificates.
     fn add(
         &mut self,
         alloc: Global,
         names: &Names,
         path: &Path,
-        chain: &Chain,
+        leaf: &Leaf,
     ) -> Result<(), AllocError>
-        requires { IsPrintableLeaf (length names.now) chain.now }
+        requires { IsPrintableLeaf (length names.now) leaf.now }
         ensures text { OnOk result (self.new.text ≡ self.old.text
-            ++ leaf_text (map string_bytes names.now) (path.now, chain.now)) }
+            ++ leaf_text (map string_bytes names.now) (path.now, leaf.now)) }
         ensures count { OnOk result (self.new.count ≡ self.old.count + 1) }
     {
         let Some(count) = self.count.checked_add(1) else {
             return Err(AllocError);
         };
-        let text = print_plain_chain(alloc, names, path, chain.polys())?;
+        let text = print_chain(alloc, names, path, leaf.chain.polys(), &leaf.certificates)?;
         self.text.push_str(text.as_str())?;
         self.count = count;
         Ok(())

@@ -7,7 +7,7 @@ ghost use Rattle.solver_reports.specs.Walks.{walk_of};
 ghost use Rattle.solver_reports.specs.Growth.{IsPrintableLeaf};
 
 use crate::report::Report;
-use chains::Chain;
+use certificates::Leaf;
 use generators::{Generator, Turn};
 use sparse_poly::{Names, Polys};
 use split_paths::{Offer, Splitter};
@@ -31,7 +31,7 @@ impl Model for Walked {
 }
 
 /// Walks the tree below an offer, and reports its answer behind the polynomials that must not vanish.
-pub fn walk<X: Splitter<Leaf = Chain>>(
+pub fn walk<X: Splitter<Leaf = Leaf>>(
     alloc: Global,
     names: &Names,
     nonzero: &Polys,

@@ -3,4 +3,5 @@ mod Statuses
 mod Answered
 mod Solved
 mod Systems
+mod Printable
 mod Usages

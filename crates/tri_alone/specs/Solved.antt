@@ -36,8 +36,9 @@ pub record IsAnswered (n : ℕ) (words : List (List ℕ)) (told : Option (List �
   pub same : ending ≡ ending_of_system n options system
 
 -- the answer solves the system: its chains are triangular sets of polynomials over the field in the
--- named variables; their points are common zeros of the inputs; and with the status of chains each
--- common zero at which no polynomial is zero that must not vanish is one of their points
+-- named variables, each with one certificate for each initial that isn't constant, and no other;
+-- their points are common zeros of the inputs; and with the status of chains each common zero at
+-- which no polynomial is zero that must not vanish is one of their points
 pub record Solves (n : ℕ) (system : TextSystem) (answer : Answer Leaf) (status : Status)
     : Type 0 where
   pub lawful : IsLawfulAnswer n (length system.names) (polynomial_system_of system) answer

@@ -58,19 +58,19 @@ fn a_system_has_the_chains_of_its_tree(rt: HostRuntime) -> Result<(), Fail> {
         ),
         (
             b"prime 5\norder x y\nx*y^2 + y + 1\n",
-            b"chain 1\npoly x*y^2 + y + 1\nchain 2\npoly x\npoly y + 1\nend 2\n",
+            b"chain 1\npoly x*y^2 + y + 1\nregular y by 1\nvalue x\nchain 2\npoly x\npoly y + 1\nend 2\n",
         ),
         (
             b"prime 5\norder x y\nx*y + 4\nx^2 + 4*x\n",
-            b"chain 1\npoly x + 4\npoly x*y + 4\nend 1\n",
+            b"chain 1\npoly x + 4\npoly x*y + 4\nregular y by 1\nwith x 4\nvalue 1\nend 1\n",
         ),
         (
             b"prime 5\norder x y\nx^2 + 4*x\nx*y + 4\n",
-            b"chain 1\npoly x^2 + 4*x\npoly x*y + 4\nend 1\n",
+            b"chain 1\npoly x + 4\npoly x*y + 4\nregular y by 1\nwith x 4\nvalue 1\nend 1\n",
         ),
         (
             b"prime 5\norder a x y\nx^2 + 4*a\nx*y + 4\n",
-            b"chain 1\npoly x^2 + 4*a\npoly x*y + 4\nend 1\n",
+            b"chain 1\npoly x^2 + 4*a\npoly x*y + 4\nregular y by 4*x\nwith x 1\nvalue 4*a\nend 1\n",
         ),
         (
             b"prime 5\norder x y\nx^2\nx*y\n",
@@ -78,15 +78,15 @@ fn a_system_has_the_chains_of_its_tree(rt: HostRuntime) -> Result<(), Fail> {
         ),
         (
             b"prime 2\norder x y\nx^2 - x\nx*y - 1\n",
-            b"chain 1\npoly x^2 + x\npoly x*y + 1\nend 1\n",
+            b"chain 1\npoly x + 1\npoly x*y + 1\nregular y by 1\nwith x 1\nvalue 1\nend 1\n",
         ),
         (
             b"prime 5\norder x y z\nx^2\ny^3 - y^2\n(x*y^2 + y - 1)*z - 1\n",
-            b"chain 1\npoly x^2\npoly y^3 + 4*y^2\npoly x*y^2*z + y*z + 4*z + 4\nend 1\n",
+            b"chain 1.1\npoly x\npoly y^2\npoly x*y^2*z + y*z + 4*z + 4\nregular z by 4*y + 4\nwith y x*y + x + 1\nvalue 1\nend 1\n",
         ),
         (
             b"prime 101\norder x y z\nx^2 + y + z - 1\nx + y^2 + z - 1\nx + y + z^2 - 1\n",
-            b"chain 1\npoly x^4 + 97*x^2 + 4*x + 100\npoly x^2*y + 52*x^2 + 99*x + 51\npoly z + y + x^2 + 100\nchain 2\npoly x^2\npoly y^2 + 100*y + 100*x^2 + x\npoly z + y + x^2 + 100\nend 2\n",
+            b"chain 1\npoly x^4 + 97*x^2 + 4*x + 100\npoly x^2*y + 52*x^2 + 99*x + 51\npoly z + y + x^2 + 100\nregular y by 4*x^3 + x^2 + 85*x + 12\nwith x 97*x + 100\nvalue 1\nchain 2\npoly x^2\npoly y^2 + 100*y + 100*x^2 + x\npoly z + y + x^2 + 100\nend 2\n",
         ),
         (
             b"prime 5\norder x\nx^65535\n",
@@ -120,7 +120,7 @@ fn points_where_a_nonzero_polynomial_is_zero_are_left_out(rt: HostRuntime) -> Re
         ),
         (
             b"prime 5\norder x y\nx*y^2 + y + 1\nnonzero x\n",
-            b"nonzero x\nchain -\npoly x*y^2 + y + 1\nend 1\n",
+            b"nonzero x\nchain -\npoly x*y^2 + y + 1\nregular y by 1\nvalue x\nend 1\n",
         ),
         (b"prime 5\norder x\nx\nnonzero 5\n", b"nonzero 0\nend 0\n"),
         (
@@ -203,7 +203,7 @@ fn options_limit_a_run(rt: HostRuntime) -> Result<(), Fail> {
             "--steps=6",
             SPHERES,
             Status::Chains,
-            b"chain 1\npoly x^4 + 97*x^2 + 4*x + 100\npoly x^2*y + 52*x^2 + 99*x + 51\npoly z + y + x^2 + 100\nchain 2\npoly x^2\npoly y^2 + 100*y + 100*x^2 + x\npoly z + y + x^2 + 100\nend 2\n",
+            b"chain 1\npoly x^4 + 97*x^2 + 4*x + 100\npoly x^2*y + 52*x^2 + 99*x + 51\npoly z + y + x^2 + 100\nregular y by 4*x^3 + x^2 + 85*x + 12\nwith x 97*x + 100\nvalue 1\nchain 2\npoly x^2\npoly y^2 + 100*y + 100*x^2 + x\npoly z + y + x^2 + 100\nend 2\n",
         ),
         ("--steps=5", SPHERES, Status::Stopped, b"stopped 1 steps\n"),
         (
