@@ -1,7 +1,6 @@
 -- Lists of entries that are made one by one.
-use Rattle.std.proofs.Common.{◌≡◌, ◌+◌, ◌-◌, ◌<◌, ◌≤◌, ℕ, zero, suc, List, [], ◌∷◌, ◌++◌, length, drop, replicate, Some, sym, ap, ap₂, ◌∙◌, append_assoc, length-append, arith}
+use Rattle.std.proofs.Common.{◌≡◌, ◌+◌, ◌-◌, ◌<◌, ℕ, zero, suc, List, [], ◌∷◌, ◌++◌, length, drop, replicate, Some, sym, ap, ap₂, ◌∙◌, append_assoc, arith}
 use Rattle.std.specs.List.{slice_get}
-use Rattle.std.proofs.lemmas.List.{length-replicate}
 use Rattle.item_lists.proofs.Places.{drop_at}
 use Rattle.polynomials.specs.Polynomials.{Polynomial, ArePolynomials, sum_of}
 use Rattle.polynomials.proofs.PolynomialLists.{ArePolynomials-append}
@@ -55,12 +54,3 @@ pub spread_are : (p n count : ℕ) (cs : List Polynomial) → ArePolynomials p n
 spread_are p n count [] are = zeros_are p n count
 spread_are p n count (a ∷ []) are = zeros_are p n count
 spread_are p n count (a ∷ b ∷ bs) are = (tt, ArePolynomials-append p n bs (b ∷ replicate (count - length (a ∷ b ∷ bs)) []) are.1.1 (are.1.0, zeros_are p n (count - length (a ∷ b ∷ bs))))
-
--- and has so many entries
-pub length-spread : (count : ℕ) (cs : List Polynomial) → length cs ≤ count → length (spread count cs) ≡ count
-length-spread count [] room = length-replicate {A = Polynomial} count []
-length-spread count (a ∷ []) room = length-replicate {A = Polynomial} count []
-length-spread count (a ∷ b ∷ bs) room =
-    let behind = length-replicate {A = Polynomial} (count - length (a ∷ b ∷ bs)) [] in
-    let all = length-append bs (b ∷ replicate (count - length (a ∷ b ∷ bs)) []) in
-    omega (arith, room, behind, all)

@@ -2,14 +2,12 @@
 use Rattle.std.proofs.Common.{◌≡◌, ℕ, Bool, true, false, eqb, List, ◌∷◌, length, Option, Some, None, IfSome, IsSome, refl, sym, ap, ◌∙◌, subst}
 use Rattle.std.proofs.lemmas.Bool.{eq-eqb}
 use Rattle.polynomials.specs.Polynomials.{Polynomial, IsPolynomial, ArePolynomials}
-use Rattle.polynomials.specs.Views.{main_var, initial_of, is_constant}
+use Rattle.polynomials.specs.Views.{initial_of, is_constant}
 use Rattle.polynomials.proofs.InitialLemmas.{IsPolynomial-initial_of}
 use Rattle.zero_sets.specs.ZeroSets.{member_in, members_below}
 use Rattle.zero_sets.specs.Certificates.{Certificate}
 use Rattle.division_rules.specs.Within.{and_then}
-use Rattle.impose_rules.specs.Chains.{with_member}
-use Rattle.impose_rules.proofs.ChainParts.{each_canonical, canonical_each, each_below, each_with_member, member_of_chain}
-use Rattle.chains.specs.Members.{with_member_at, with_polynomial}
+use Rattle.impose_rules.proofs.ChainParts.{each_canonical, canonical_each, each_below, member_of_chain}
 use Rattle.finish_rules.specs.Checks.{combination_within, is_value, checked_identity, checked_at, checked}
 
 -- the initial of a member of a canonical chain is canonical
@@ -38,11 +36,3 @@ checked_member p n w v chain below c h same some is lower nonconstant count = go
         ∙ ap (λ b. elim b as (λ _. Option Bool) [ true ↦ checked_identity p n w chain c t | false ↦ Some false ]) (eq-eqb (length c.below) (length (members_below c.of chain)) (count ∙ ap length there))
         ∙ ap (λ g. and_then (combination_within p n w (c.cofactor ∷ c.below) (g ∷ members_below c.of chain)) (λ f. Some (is_value chain c f))) (sym i)
         ∙ ap (λ gs. and_then (combination_within p n w (c.cofactor ∷ c.below) (h ∷ gs)) (λ f. Some (is_value chain c f))) (sym there)
-
--- a canonical polynomial at its main variable leaves a chain canonical
-pub member_added : (p n : ℕ) (t : Polynomial) (chain : List Polynomial) → ArePolynomials p n chain → IsPolynomial p n t → ArePolynomials p n (with_polynomial t chain)
-member_added p n t chain are i = go (main_var t)
-  where
-    go : (o : Option ℕ) → ArePolynomials p n (with_member_at o t chain)
-    go None = are
-    go (Some v) = canonical_each p n (with_member v t chain) (each_with_member (IsPolynomial p n) v t chain i (each_canonical p n chain are))

@@ -7,7 +7,7 @@ use Rattle.polynomials.proofs.Canonical.{IsPolynomial-product_of, IsPolynomial-o
 use Rattle.division_rules.specs.Quotients.{quotient_within, without_factor, factor_bound, without_factors}
 use Rattle.division_rules.specs.Lists.{list_operations}
 use Rattle.division_rules.specs.Points.{product_of_all}
-use Rattle.division_rules.proofs.QuotientFacts.{quotient_within_canonical, quotient_within_nonzero, quotient_within_zero, quotient_within_degree_smaller}
+use Rattle.division_rules.proofs.QuotientFacts.{quotient_within_canonical, quotient_within_nonzero, quotient_within_degree_smaller}
 
 -- the first of a list is a member
 pub Contains-first : {X : Type 0} (x : X) (xs : List X) → Contains (x ∷ xs) x
@@ -80,14 +80,6 @@ module _ (p n w : ℕ) (prime : IsPrime p) where
   -- nor is it without a list of factors
   pub without_factors_nonzero : (bs : List Polynomial) (f : Polynomial) → ArePolynomials p n bs → IsPolynomial p n f → f ≢ [] → without_factors p w bs f ≢ []
   without_factors_nonzero bs f are i = without_factors_relates bs (λ x y. x ≢ [] → y ≢ []) (λ x j h. h) (λ b x q y m c ib j e h some. h (quotient_within_nonzero p n w x b q prime j ib e some)) are f i
-
-  -- 0 stays 0
-  pub without_factor_zero : (b f : Polynomial) (k : ℕ) → IsPolynomial p n b → IsPolynomial p n f → f ≡ [] → without_factor p w b k f ≡ []
-  without_factor_zero b f k ib i = without_factor_relates b ib (λ x y. x ≡ [] → y ≡ []) (λ x j h. h) (λ x q y j e h none. h (quotient_within_zero p n w x b q prime j ib e none)) k f i
-
-  -- also without a list of factors
-  pub without_factors_zero : (bs : List Polynomial) (f : Polynomial) → ArePolynomials p n bs → IsPolynomial p n f → f ≡ [] → without_factors p w bs f ≡ []
-  without_factors_zero bs f are i = without_factors_relates bs (λ x y. x ≡ [] → y ≡ []) (λ x j h. h) (λ b x q y m c ib j e h none. h (quotient_within_zero p n w x b q prime j ib e none)) are f i
 
   -- nor does one without a list of factors
   pub degree_in-without_factors : (bs : List Polynomial) (f : Polynomial) (v : ℕ) → ArePolynomials p n bs → IsPolynomial p n f → degree_in v (without_factors p w bs f) ≤ degree_in v f

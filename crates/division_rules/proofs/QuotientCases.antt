@@ -1,10 +1,9 @@
 -- When there is no quotient within a width, and what fits by its number of terms alone.
-use Rattle.std.proofs.Common.{◌≡◌, ◌≢◌, ◌↔◌, ℕ, ◌*◌, ◌<◌, ◌≤◌, true, false, [], length, Option, Some, None, refl, sym, ap, ◌∙◌, subst, inl, inr, arith}
+use Rattle.std.proofs.Common.{◌≡◌, ◌≢◌, ◌↔◌, ℕ, ◌*◌, ◌<◌, ◌≤◌, true, [], length, Option, Some, None, refl, sym, ap, ◌∙◌, subst, inl, inr, arith}
 use Rattle.polynomials.specs.Primes.{IsPrime}
 use Rattle.polynomials.specs.Polynomials.{Polynomial, IsPolynomial, product_of}
 use Rattle.polynomials.specs.Views.{degree_in}
 use Rattle.polynomials.specs.Fits.{fits}
-use Rattle.polynomials.proofs.Integral.{quotient_is_unique}
 use Rattle.polynomials.proofs.FitsLemmas.{fits_in_each_variable}
 use Rattle.polynomials.proofs.QuotientLemmas.{quotient_degree}
 use Rattle.division_rules.specs.Quotients.{quotient_within}
@@ -35,16 +34,6 @@ module _ (p n w : ℕ) (f g : Polynomial) (prime : IsPrime p) (i : IsPolynomial 
     λ none q iq product fit. let found = quotient_within_found p n w f g q prime j iq some product fit in cc,
     λ never. quotient_within_none p w f g (λ q e. never q (IsPolynomial-quotient_within p n w f g q positive i j e) (quotient_within_exact p w f g q e) (quotient_within_fits p w f g q e)),
   )
-
-  -- a factor that doesn't fit is not the quotient, nor is another one
-  pub quotient_within_unfit : (q : Polynomial) → IsPolynomial p n q → product_of p q g ≡ f → fits w q g ≡ false → quotient_within p w f g ≡ None
-  quotient_within_unfit q iq product unfit = quotient_within_none p w f g other
-    where
-      other : (r : Polynomial) → quotient_within p w f g ≡ Some r → ⊥
-      other r e =
-          let same = quotient_is_unique p n r q g prime (IsPolynomial-quotient_within p n w f g r positive i j e) iq j some (quotient_within_exact p w f g r e ∙ sym product) in
-          let fit = subst (λ x. fits w x g ≡ true) same (quotient_within_fits p w f g r e) in
-          cc
 
   -- where no exponent of f is greater than 65,535, a factor fits by its number of terms
   pub fits_by_terms : (q : Polynomial) → IsPolynomial p n q → product_of p q g ≡ f → f ≢ [] → ((v : ℕ) → degree_in v f ≤ 65535) → length q * length g ≤ w → fits w q g ≡ true

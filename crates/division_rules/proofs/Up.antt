@@ -76,11 +76,6 @@ module _ (p n : ℕ) (many : 1 < p) where
   if_canonical None f e = cc
   if_canonical (Some g) f e = subst (IsPolynomial p n) (same_Some g.0 f e) g.1
 
-  -- a list
-  pub if_all_canonical : (xs : Option (List (CanonicalPolynomial p n))) (fs : List Polynomial) → option_map (terms_all p n many) xs ≡ Some fs → ArePolynomials p n fs
-  if_all_canonical None fs e = cc
-  if_all_canonical (Some gs) fs e = subst (ArePolynomials p n) (same_Some (terms_all p n many gs) fs e) (terms_canonical gs)
-
   -- a row
   pub if_row_canonical : (x : Option (Row (CanonicalPolynomial p n))) (f : Row Polynomial) → option_map (down p n many) x ≡ Some f → IsPolynomialRow p n f
   if_row_canonical None f e = cc

@@ -3,7 +3,7 @@ use Rattle.std.proofs.Common.{◌≡◌, ℕ, zero, suc, ◌+◌, ◌-◌, ◌/�
 use Rattle.std.proofs.Math.Nat.{div-lt_iff_lt-mul, pow-suc}
 use Rattle.std.proofs.lemmas.Bool.{and_from}
 use Rattle.std.proofs.lemmas.Bool.Decides.{nat_tests}
-use Rattle.polynomials.specs.Monomials.{Monomial, exponent_of, monomial_product, MonomialDivides, ExponentsFit}
+use Rattle.polynomials.specs.Monomials.{exponent_of, monomial_product, MonomialDivides, ExponentsFit}
 use Rattle.polynomials.specs.MonomialOrders.{monomial_product_comm}
 use Rattle.polynomials.specs.Fits.{is_exponent_list}
 use Rattle.mono_words.specs.Words.{exponents, packed, packed-exponents, AddWithoutCarry, upper_below}
@@ -67,11 +67,6 @@ fit-AddWithoutCarry zero a b add v = omega arith
 fit-AddWithoutCarry (suc n) a b add zero = omega (arith, add.0)
 fit-AddWithoutCarry (suc n) a b add (suc v) = fit-AddWithoutCarry n (a / 65536) (b / 65536) add.1 v
 
--- the same, of two monomials that are the words' exponents
-pub add_where_fit : (n a b : ℕ) (l m : Monomial) → exponents n a ≡ l → exponents n b ≡ m → ExponentsFit l m → AddWithoutCarry n a b
-add_where_fit n a b l m first second fit =
-    AddWithoutCarry-fit n a b (subst (λ x. ExponentsFit x (exponents n b)) (sym first) (subst (ExponentsFit l) (sym second) fit))
-
 -- a part of a sum without carry divides it
 pub divides-sum : (n a b : ℕ) → AddWithoutCarry n a b → MonomialDivides (exponents n a) (exponents n (a + b))
 unfolding exponents AddWithoutCarry
@@ -102,8 +97,3 @@ pub divides_from_difference : (n a b : ℕ) → a ≤ b → AddWithoutCarry n a 
 divides_from_difference n a b below add =
     let whole : a + (b - a) ≡ b = omega arith in
     subst (λ x. MonomialDivides (exponents n a) (exponents n x)) whole (divides-sum n a (b - a) add)
-
--- a divisor of a monomial, as words
-pub divides_as_words : (n a b : ℕ) (l m : Monomial) → exponents n a ≡ l → exponents n b ≡ m → MonomialDivides l m → MonomialDivides (exponents n a) (exponents n b)
-divides_as_words n a b l m first second divides =
-    subst (λ x. MonomialDivides x (exponents n b)) (sym first) (subst (MonomialDivides l) (sym second) divides)

@@ -161,8 +161,7 @@ fn add_products(
     ensures sum { OnOk result (collected f (heap_items products.new)
         ≡ sum_of f (collected f (heap_items products.old)) (product_of f (t ∷ []) g.now)) }
 {
-    // Tells that the modulus is prime.
-    let _ = f.prime();
+    f.facts();
     let (monomial, c) = t;
     for u in g {
         products.push((monomial.product(u.0), f.mul(c, u.1)))?;

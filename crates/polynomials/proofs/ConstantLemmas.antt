@@ -1,14 +1,13 @@
 -- Constants, and products with them.
-use Rattle.std.proofs.Common.{◌≡◌, ◌≢◌, ℕ, zero, suc, ◌<◌, true, [], map, replicate, append-nil, refl, sym, subst, arith}
+use Rattle.std.proofs.Common.{◌≡◌, ◌≢◌, ℕ, zero, suc, ◌<◌, [], map, replicate, append-nil, refl, sym, subst, arith}
 use Rattle.polynomials.specs.Primes.{IsPrime}
-use Rattle.polynomials.specs.Polynomials.{term, Polynomial, IsPolynomial, product_of, scaled, constant_of, one_of, term_product}
-use Rattle.polynomials.specs.Views.{is_constant, IsFreeOf}
+use Rattle.polynomials.specs.Polynomials.{term, Polynomial, IsPolynomial, product_of, scaled, constant_of, term_product}
+use Rattle.polynomials.specs.Views.{IsFreeOf}
 use Rattle.polynomials.proofs.Canonical.{IsPolynomial-constant_of}
 use Rattle.polynomials.proofs.SamePolynomials.{SameSums}
 use Rattle.polynomials.proofs.SameSumsLemmas.{SameSums-constant_product, product_of_from_sums}
 use Rattle.polynomials.proofs.MonicLemmas.{IsPolynomial-scaled}
 use Rattle.polynomials.proofs.Powers.{one_is_free}
-use Rattle.polynomials.proofs.MainVariables.{is_constant_iff}
 
 -- a constant other than 0 isn't 0
 pub constant_of_nonzero : (n c : ℕ) → 0 < c → constant_of n c ≢ []
@@ -19,14 +18,6 @@ constant_of_nonzero n (suc c) positive = λ e. cc
 pub constant_of_free : (v n c : ℕ) → IsFreeOf v (constant_of n c)
 constant_of_free v n zero = refl
 constant_of_free v n (suc c) = one_is_free v n
-
--- a constant passes the test for constants
-pub is_constant-constant_of : (n c : ℕ) → is_constant (constant_of n c) ≡ true
-is_constant-constant_of n c = (is_constant_iff (constant_of n c)).1 (λ w. constant_of_free w n c)
-
--- the constant 1
-pub constant_of-one : (n : ℕ) → constant_of n 1 ≡ one_of n
-constant_of-one n = refl
 
 -- a constant other than 0 times f multiplies the coefficients
 pub constant_of-product_of : (p n c : ℕ) (f : Polynomial) → IsPrime p → 0 < c → c < p → IsPolynomial p n f → product_of p (constant_of n c) f ≡ scaled p c f

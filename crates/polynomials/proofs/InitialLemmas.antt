@@ -1,17 +1,17 @@
 -- The initial: canonical, not 0, without the main variable, monic where the polynomial is.
-use Rattle.std.proofs.Common.{◌≡◌, ◌≢◌, ℕ, zero, suc, ◌<◌, ◌≤◌, cond, [], ◌∷◌, length, set, Option, Some, None, refl, sym, ap, ◌∙◌, subst, inl, inr, arith}
-use Rattle.std.proofs.lemmas.Bool.{cases_eq, eq-eqb}
+use Rattle.std.proofs.Common.{◌≡◌, ℕ, zero, suc, ◌<◌, ◌≤◌, [], ◌∷◌, length, Option, Some, None, refl, sym, ap, ◌∙◌, subst, inl, inr, arith}
+use Rattle.std.proofs.lemmas.Bool.{cases_eq}
 use Rattle.std.proofs.lemmas.Cmp.{ranked}
 use Rattle.std.specs.Ordering.{nat_cmp, ordering_then}
 use Rattle.std.specs.declared.cmp.Ordering.TheVariants.{Less}
 use Rattle.polynomials.specs.Monomials.{Monomial, exponent_of, monomial_order}
 use Rattle.polynomials.specs.MonomialOrders.{then_less, monomial_order-refl, monomial_order_same}
-use Rattle.polynomials.specs.Polynomials.{Term, term, Polynomial, IsPolynomial}
-use Rattle.polynomials.specs.Views.{degree_in, coefficient_in, lead_in, lead_in_main, main_var, initial_of, IsFreeOf}
+use Rattle.polynomials.specs.Polynomials.{Term, Polynomial, IsPolynomial}
+use Rattle.polynomials.specs.Views.{degree_in, lead_in, lead_in_main, main_var, initial_of, IsFreeOf}
 use Rattle.polynomials.proofs.Monomialwise.{EachMonomial, EachMonomial-implied, EachMonomial-both, HaveLength-from_IsPolynomial}
 use Rattle.polynomials.proofs.FirstTerms.{AreBelow-from_StartsBelow}
 use Rattle.polynomials.proofs.Coefficients.{IsPolynomial-coefficient_in}
-use Rattle.polynomials.proofs.Degrees.{coefficient_in_free, degree_in-coefficient_in, lead_in_nonzero, degree_in-from_bound}
+use Rattle.polynomials.proofs.Degrees.{coefficient_in_free, degree_in-coefficient_in, degree_in-from_bound}
 use Rattle.polynomials.proofs.MainVariables.{free_above_main_var, replicate_from_zeros}
 
 -- with a main variable the initial is the lead in it
@@ -25,14 +25,6 @@ lead_is_canonical p n f (Some v) i = IsPolynomial-coefficient_in v (degree_in v 
 -- the initial is canonical
 pub IsPolynomial-initial_of : (p n : ℕ) (f : Polynomial) → IsPolynomial p n f → IsPolynomial p n (initial_of f)
 IsPolynomial-initial_of p n f i = lead_is_canonical p n f (main_var f) i
-
-lead_is_nonzero : (f : Polynomial) (o : Option ℕ) → f ≢ [] → lead_in_main f o ≢ []
-lead_is_nonzero f None nonzero = nonzero
-lead_is_nonzero f (Some v) nonzero = lead_in_nonzero v f nonzero
-
--- and not 0 where f isn't
-pub initial_of_nonzero : (f : Polynomial) → f ≢ [] → initial_of f ≢ []
-initial_of_nonzero f nonzero = lead_is_nonzero f (main_var f) nonzero
 
 -- no variable from the main one on occurs in the initial
 pub initial_of_free : (v w : ℕ) (f : Polynomial) → main_var f ≡ Some v → v ≤ w → IsFreeOf w (initial_of f)
@@ -88,9 +80,3 @@ first_exponent p n v t f i e =
     (EachMonomial-both (λ m. (monomial_order m t.0 ≡ Less) × (length m ≡ n)) (λ m. (w : ℕ) → v < w → exponent_of w m ≡ 0) f (EachMonomial-both (λ m. monomial_order m t.0 ≡ Less) (λ m. length m ≡ n) f (AreBelow-from_StartsBelow p n t.0 f i.4 i.3) (HaveLength-from_IsPolynomial p n f i.4)) zeros.1) in
     let rest = degree_in-from_bound v (exponent_of v t.0) f bounds in
     omega arith
-
--- so the initial begins with the first term, without the main variable
-pub initial_of_first : (p n v : ℕ) (t : Term) (f : Polynomial) → IsPolynomial p n (t ∷ f) → main_var (t ∷ f) ≡ Some v → initial_of (t ∷ f) ≡ term (set t.0 v 0) t.1 ∷ coefficient_in v (degree_in v (t ∷ f)) f
-initial_of_first p n v t f i e =
-    let k = degree_in v (t ∷ f) in
-    initial_of-lead_in v (t ∷ f) e ∙ ap (λ b. cond b (term (set t.0 v 0) t.1 ∷ coefficient_in v k f) (coefficient_in v k f)) (eq-eqb (exponent_of v t.0) k (first_exponent p n v t f i e))

@@ -32,7 +32,6 @@ pub mod VariablePowers
 pub mod Differences
 pub mod InitialLemmas
 pub mod MonicForms
-pub mod TermCounts
 pub mod ConstantLemmas
 pub mod QuotientLemmas
 pub mod ScaledLemmas

@@ -69,11 +69,6 @@ pub IsPolynomial-monic : (p n : ℕ) (f : Polynomial) → IsPrime p → IsPolyno
 IsPolynomial-monic p n [] prime i = tt
 IsPolynomial-monic p n (t ∷ f) prime i = (monic_is_monic p n t f prime i).0
 
--- and 0 only where f is
-pub monic_zero : (p : ℕ) (f : Polynomial) → monic p f ≡ [] → f ≡ []
-monic_zero p [] e = refl
-monic_zero p (t ∷ f) e = cc
-
 -- f is its first coefficient times its monic form
 pub scaled-monic : (p n : ℕ) (t : Term) (f : Polynomial) → IsPrime p → IsPolynomial p n (t ∷ f) → scaled p t.1 (monic p (t ∷ f)) ≡ t ∷ f
 scaled-monic p n t f prime i = scaled-scaled p t.1 (inverse_of p t.1) (t ∷ f) ∙ ap (λ c. scaled p c (t ∷ f)) (inverse_of_is p t.1 prime i.1 i.2).1 ∙ scaled-one p n (t ∷ f) i

@@ -4,7 +4,7 @@ use Rattle.std.specs.declared.cmp.Ordering.{Ordering}
 use Rattle.std.specs.declared.cmp.Ordering.TheVariants.{Less, Equal, Greater}
 use Rattle.polynomials.specs.Monomials.{Monomial, monomial_order, monomial_product}
 use Rattle.polynomials.specs.MonomialOrders.{length-monomial_product}
-use Rattle.polynomials.specs.Polynomials.{Term, term, Polynomial, IsPolynomial, with_first, added_beside, with_term, collected, sum_of, product_of, negative_of, scaled, term_product, term_products}
+use Rattle.polynomials.specs.Polynomials.{Term, term, Polynomial, IsPolynomial, with_first, added_beside, with_term, collected, sum_of, product_of, negative_of, term_product, term_products}
 
 -- each monomial of ts has the property
 abbrev pub EachMonomial : (Monomial → Type 0) → List Term → Type 0
@@ -55,11 +55,6 @@ module _ (P : Monomial → Type 0) where
   pub EachMonomial-negative_of : (p : ℕ) (f : Polynomial) → EachMonomial P f → EachMonomial P (negative_of p f)
   EachMonomial-negative_of p [] h = tt
   EachMonomial-negative_of p (t ∷ f) h = (h.0, EachMonomial-negative_of p f h.1)
-
-  -- of a multiple
-  pub EachMonomial-scaled : (p c : ℕ) (f : Polynomial) → EachMonomial P f → EachMonomial P (scaled p c f)
-  EachMonomial-scaled p c [] h = tt
-  EachMonomial-scaled p c (t ∷ f) h = (h.0, EachMonomial-scaled p c f h.1)
 
 -- what follows for each monomial
 pub EachMonomial-implied : (P Q : Monomial → Type 0) → ((m : Monomial) → P m → Q m) → (f : List Term) → EachMonomial P f → EachMonomial Q f

@@ -1,34 +1,15 @@
 -- The lines of a certificate, from one polynomial of the chain to the next.
-use Rattle.std.proofs.Common.{◌≡◌, ◌∙◌, ℕ, ◌+◌, ◌<◌, ◌≤◌, false, List, [], ◌∷◌, ◌++◌, Some, length, drop, map, slice_get, refl, ap, subst, append_assoc, arith, lt-ltb, ◌⊎◌, inl, inr}
-use Rattle.std.proofs.lemmas.Bool.{cases_lt}
-use Rattle.std.proofs.lemmas.Option.{get_or_from_slice_get, slice_get_within, slice_get-map}
+use Rattle.std.proofs.Common.{◌≡◌, ◌∙◌, ℕ, ◌+◌, ◌<◌, ◌≤◌, false, List, [], ◌∷◌, ◌++◌, Some, length, drop, slice_get, refl, ap, subst, append_assoc, arith, lt-ltb}
+use Rattle.std.proofs.lemmas.Option.{get_or_from_slice_get, slice_get_within}
 use Rattle.std.proofs.lemmas.List.{drop_all}
 use Rattle.std.proofs.lemmas.List.Elements.{All-get_or}
 use Rattle.std.specs.List.{All}
 use Rattle.item_lists.proofs.Places.{drop_at}
-use Rattle.std.specs.Option.{option_map}
 use Rattle.std.specs.List.{filter_map, flat_map, zip}
 use Rattle.polynomials.specs.Polynomials.{Polynomial}
-use Rattle.polynomials.specs.Views.{main_var, degree_in}
-use Rattle.polynomials.proofs.MainVariables.{degree_in_main_var}
+use Rattle.polynomials.specs.Views.{main_var}
 use Rattle.zero_sets.specs.ZeroSets.{is_variable_below, members_below}
-use Rattle.report_text.specs.Polynomials.{IsInLeast}
-use Rattle.report_text.specs.Certified.{name_of, with_line}
-
--- a name is found at its place
-pub name_at : {A : Type 0} (v : A → List ℕ) (xs : List A) (i : ℕ) (x : A) → slice_get xs i ≡ Some x → name_of (map v xs) i ≡ v x
-name_at v xs i x h = get_or_from_slice_get (map v xs) i (v x) [] (slice_get-map v xs i ∙ ap (option_map v) h)
-
--- the main variable has a name
-pub main_is_named : (k u : ℕ) (t : Polynomial) → IsInLeast k t → main_var t ≡ Some u → u < k
-main_is_named k u t named main = by_cases (cases_lt u k)
-  where
-    by_cases : (u < k) ⊎ (k ≤ u) → u < k
-    by_cases (inl less) = less
-    by_cases (inr past) = absurd (none (degree_in_main_var u t main) (named u past))
-      where
-        none : 0 < degree_in u t → degree_in u t ≡ 0 → ⊥
-        none occurs free = omega arith
+use Rattle.report_text.specs.Certified.{with_line}
 
 -- the lines of the cofactors of a chain's polynomials below v
 abbrev pub lines_below : List (List ℕ) → ℕ → List Polynomial → List Polynomial → List ℕ

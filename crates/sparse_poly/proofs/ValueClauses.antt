@@ -10,20 +10,20 @@ use Rattle.sparse_poly.specs.Values.{HasValueOfSum, HasValueOfDifference, HasVal
 
 -- of a sum
 pub has_value_of_sum : (p : ℕ) (f g h : Polynomial) → h ≡ sum_of p f g → HasValueOfSum p f g h
-has_value_of_sum p f g h e r xs domain point = ap (value_at r xs) e ∙ value_at-sum_of p r domain.ring xs point f g
+has_value_of_sum p f g h e r xs over = ap (value_at r xs) e ∙ value_at-sum_of p r over.domain.ring xs over.point f g
 
 -- of a difference
 pub has_value_of_difference : (p n : ℕ) (f g h : Polynomial) → IsPolynomial p n g → h ≡ difference_of p f g → HasValueOfDifference p f g h
-has_value_of_difference p n f g h i e = subst (HasValueOfDifference p f g) (sym e) (λ r xs domain point. value_at-difference_of p r domain.ring xs point n f g i)
+has_value_of_difference p n f g h i e = subst (HasValueOfDifference p f g) (sym e) (λ r xs over. value_at-difference_of p r over.domain.ring xs over.point n f g i)
 
 -- of a product
 pub has_value_of_product : (p : ℕ) (f g h : Polynomial) → h ≡ product_of p f g → HasValueOfProduct p f g h
-has_value_of_product p f g h e r xs domain point = ap (value_at r xs) e ∙ value_at-product_of p r domain.ring xs point f g
+has_value_of_product p f g h e r xs over = ap (value_at r xs) e ∙ value_at-product_of p r over.domain.ring xs over.point f g
 
 -- of a monic form: the same zeros
 pub has_zeros_of : (p n : ℕ) (f h : Polynomial) → IsPrime p → IsPolynomial p n f → h ≡ monic p f → HasZerosOf p f h
-has_zeros_of p n f h prime i e = subst (HasZerosOf p f) (sym e) (λ r xs domain point. value_at-monic p r domain.ring xs point n f prime i)
+has_zeros_of p n f h prime i e = subst (HasZerosOf p f) (sym e) (λ r xs over. value_at-monic p r over.domain.ring xs over.point n f prime i)
 
 -- of a lead and a tail
 pub splits_value : (p v : ℕ) (f tail : Polynomial) → tail ≡ tail_in v f → SplitsValue p v f (lead_in v f) tail
-splits_value p v f tail e r xs domain point = value_of_lead_and_tail p v r xs f domain.ring point ∙ ap (λ g. plus_in r (times_in r (value_at r xs (lead_in v f)) (power_at r (get_or xs v r.one) (degree_in v f))) (value_at r xs g)) (sym e)
+splits_value p v f tail e r xs over = value_of_lead_and_tail p v r xs f over.domain.ring over.point ∙ ap (λ g. plus_in r (times_in r (value_at r xs (lead_in v f)) (power_at r (get_or xs v r.one) (degree_in v f))) (value_at r xs g)) (sym e)

@@ -1,6 +1,6 @@
 -- Powers by one product after the other.
-use Rattle.std.proofs.Common.{◌≡◌, ℕ, zero, suc, ◌+◌, ◌-◌, ◌<◌, ◌≤◌, [], ◌∷◌, length, get_or, Some, None, refl, sym, ap, ◌∙◌, arith, add-one, zero-add}
-use Rattle.polynomials.specs.Polynomials.{Term, Polynomial}
+use Rattle.std.proofs.Common.{◌≡◌, ℕ, zero, suc, ◌+◌, ◌-◌, ◌<◌, ◌≤◌, Some, None, sym, ap, ◌∙◌, arith, add-one, zero-add}
+use Rattle.polynomials.specs.Polynomials.{Polynomial}
 use Rattle.polynomials.specs.Fits.{product_within, product_so_far, power_within}
 
 -- one product more
@@ -21,9 +21,3 @@ pub no_greater_power : (p n w c e : ℕ) (f : Polynomial) → 0 < c → c ≤ e 
 no_greater_power p n w c e f some less none =
     let same : e ≡ (e - c) + c = omega arith in
     ap (power_within p n w f) same ∙ none_after p n w c (e - c) f some none
-
--- a polynomial of one term
-pub only_term : (f : Polynomial) (d : Term) → length f ≡ 1 → f ≡ get_or f 0 d ∷ []
-only_term [] d e = absurd (omega arith)
-only_term (t ∷ []) d e = refl
-only_term (t ∷ u ∷ f) d e = absurd (omega arith)

@@ -52,13 +52,6 @@ changed_kept P Q R g each (Emit x) kept = kept
 changed_kept P Q R g each TooWide kept = tt
 changed_kept P Q R g each (Kids kids) kept = some_mapped P Q g each kids kept
 
--- and what is emitted stays
-pub changed_emits : {T U L : Type 0} (R : L → Type 0) (g : T → U) (s : Step T L) → IfEmitted R s → IfEmitted R (with_each_kid g s)
-changed_emits R g Gone emits = tt
-changed_emits R g (Emit x) emits = emits
-changed_emits R g TooWide emits = tt
-changed_emits R g (Kids kids) emits = tt
-
 -- a lawful step, and another after what it emits
 pub emitted_lawful : {T L M : Type 0} (P : T → Type 0) (R : L → Type 0) (S : M → Type 0) (s : Step T L) (f : L → Step T M) → IsLawfulStep P R s → ((x : L) → R x → IsLawfulStep P S (f x)) → IsLawfulStep P S (emitted_then s f)
 emitted_lawful P R S Gone f lawful each = tt

@@ -1,6 +1,5 @@
 -- The item that words begin with is the only one.
-use Rattle.std.proofs.Common.{◌≡◌, ℕ, suc, ◌<◌, List, [], ◌∷◌, ◌++◌, length, refl, sym, ap₂, subst, inl, inr, arith, length-append}
-use Rattle.std.specs.Prelude.{codes}
+use Rattle.std.proofs.Common.{◌≡◌, ℕ, suc, List, [], ◌∷◌, ◌++◌, length, refl, sym, ap₂, subst, inl, inr, arith, length-append}
 use Rattle.std.proofs.Math.Seq.{get_or-append_seam}
 use Rattle.tri_io.specs.Commands.{Item, flag, single_word, Begins}
 use Rattle.tri_io.specs.Texts.{HasNoEquals}
@@ -50,17 +49,3 @@ begins_same words a b r s p q (inr x) (inr y) =
     let name : a.name ≡ b.name = cc in
     let value : a.value ≡ b.value = cc in
     (item_same a b name value, cc)
-
--- a word alone, with no equals sign, begins with no item
-pub unfinished : (word text : List ℕ) (after : List (List ℕ)) → word ≡ codes "--" ++ text → HasNoEquals text → length after ≡ 0
-    → (item : Item) (rest : List (List ℕ)) → Begins (word ∷ after) item rest → ⊥
-unfinished word text (next ∷ after) spelled plain none item rest begins = absurd (omega arith)
-unfinished word text [] spelled plain none item rest (inl e) =
-    let parted : item.name ++ (61 ∷ item.value) ≡ text = cc in
-    not_plain item.name item.value (let P : List ℕ → Type 0 = λ t. HasNoEquals t in subst P (sym parted) plain)
-unfinished word text [] spelled plain none item rest (inr e) = cc
-
--- fewer words are left after an item
-pub begins_shorter : (words : List (List ℕ)) (item : Item) (rest : List (List ℕ)) → Begins words item rest → length rest < length words
-begins_shorter words item rest (inl x) = rw x (omega arith)
-begins_shorter words item rest (inr x) = rw x (omega arith)

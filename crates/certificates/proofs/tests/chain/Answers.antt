@@ -2,7 +2,7 @@
 use Rattle.std.proofs.Common.{sym, subst}
 use Rattle.mono_words.specs.declared.mono.TheConstants.{VARS}
 use Rattle.polynomials.specs.Polynomials.{ArePolynomials}
-use Rattle.certificates.proofs.Members.{member_added}
+use Rattle.chains.proofs.Additions.{member_added}
 use Rattle.certificates.proofs.tests.chain.Goals as goal
 
 pub loop-terms-preserved : goal.loop-terms-preserved
