@@ -1,17 +1,15 @@
 -- Powers of polynomials.
-use Rattle.std.proofs.Common.{◌≡◌, ◌≢◌, ℕ, zero, suc, ◌<◌, List, [], Option, Some, None, refl, sym, ap, ◌∙◌, arith}
+use Rattle.std.proofs.Common.{◌≡◌, ◌≢◌, ℕ, zero, suc, ◌<◌, [], Option, Some, None, refl, sym, ap, ◌∙◌, arith}
 use Rattle.std.proofs.lemmas.Option.{same_Some}
 use Rattle.polynomials.specs.Primes.{IsPrime}
 use Rattle.polynomials.specs.Polynomials.{Polynomial, IsPolynomial, product_of, one_of}
 use Rattle.polynomials.specs.Views.{IsFreeOf}
 use Rattle.polynomials.specs.Fits.{power_of, product_so_far, power_within}
-use Rattle.polynomials.specs.Rings.{Ring, HasCharacteristic, power_in, value}
+use Rattle.polynomials.specs.Rings.{power_in}
 use Rattle.polynomials.specs.Laws.{PowerWithinIsPower}
-use Rattle.polynomials.proofs.RingLaws.{power_in-one, times_comm}
 use Rattle.polynomials.proofs.Canonical.{IsPolynomial-product_of, IsPolynomial-one_of}
 use Rattle.polynomials.proofs.PolynomialLaws.{one_of-product_of, product_of_comm}
 use Rattle.polynomials.proofs.PolynomialRing.{CanonicalPolynomial, polynomial_ring}
-use Rattle.polynomials.proofs.Values.{value-product_of, value-one_of}
 use Rattle.polynomials.proofs.Integral.{product_of_nonzero}
 use Rattle.polynomials.proofs.FitsLemmas.{product_within_is}
 use Rattle.polynomials.proofs.DegreesOfProducts.{product_is_free}
@@ -53,12 +51,6 @@ pub power_is_free : (p n v : ℕ) (f : Polynomial) (e : ℕ) → IsFreeOf v f �
 power_is_free p n v f zero h = one_is_free v n
 power_is_free p n v f (suc zero) h = h
 power_is_free p n v f (suc (suc e)) h = product_is_free p v (power_of p n f (suc e)) f (power_is_free p n v f (suc e) h) h
-
--- the value of a power is the power of the value
-pub value-power_of : {A : Type 0} (r : Ring A) (p n : ℕ) → HasCharacteristic r p → (xs : List A) (f : Polynomial) (e : ℕ) → value r xs (power_of p n f e) ≡ power_in r (value r xs f) e
-value-power_of r p n characteristic xs f zero = value-one_of r xs n
-value-power_of r p n characteristic xs f (suc zero) = sym (power_in-one r (value r xs f))
-value-power_of r p n characteristic xs f (suc (suc e)) = value-product_of r p characteristic xs (power_of p n f (suc e)) f ∙ ap (λ w. r.◌⊗◌ w (value r xs f)) (value-power_of r p n characteristic xs f (suc e)) ∙ times_comm r (power_in r (value r xs f) (suc e)) (value r xs f)
 
 -- a product with what was made so far
 product_so_far_is : (p w : ℕ) (f h : Polynomial) (o : Option Polynomial) → product_so_far p w f o ≡ Some h → (g : Polynomial) × (o ≡ Some g) × (product_of p g f ≡ h)

@@ -116,10 +116,6 @@ module _ {A : Type 0} (r : Ring A) where
       one_more : suc d + e ≡ suc (d + e)
       one_more = omega arith
 
-  -- the first power
-  pub power_in-one : (x : A) → power_in r x 1 ≡ x
-  power_in-one x = times-one x
-
 module _ {A : Type 0} (r : Ring A) (integral : IsIntegral r) where
   open r use {◌⊕◌, ◌⊗◌, nil, one, neg}
 

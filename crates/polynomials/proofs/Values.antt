@@ -1,11 +1,11 @@
 -- Values of polynomials at a point of a ring.
 use Rattle.std.proofs.Common.{◌≡◌, ℕ, zero, suc, List, [], ◌∷◌, replicate, refl, sym, ap, ap₂, ◌∙◌}
 use Rattle.polynomials.specs.Monomials.{Monomial, monomial_product}
-use Rattle.polynomials.specs.Polynomials.{Polynomial, IsPolynomial, sum_of, product_of, negative_of, difference_of, scaled, constant_of, one_of, term_products}
+use Rattle.polynomials.specs.Polynomials.{Polynomial, IsPolynomial, sum_of, product_of, difference_of, scaled, constant_of, one_of, term_products}
 use Rattle.polynomials.specs.Rings.{Ring, natural_in, power_in, monomial_value, value, HasCharacteristic}
 use Rattle.polynomials.proofs.RingLaws.{one-times, times-one, times_four, power_in-add}
 use Rattle.polynomials.proofs.WeightedSums.{weighted_sum-multiplicative}
-use Rattle.polynomials.proofs.SumsOfOperations.{weighted_sum-collected, weighted_sum-sum_of, weighted_sum-negative_of, weighted_sum-difference_of, weighted_sum-scaled, weighted_sum-constant_of, weighted_sum-monomial}
+use Rattle.polynomials.proofs.SumsOfOperations.{weighted_sum-collected, weighted_sum-sum_of, weighted_sum-difference_of, weighted_sum-scaled, weighted_sum-constant_of, weighted_sum-monomial}
 
 module _ {A : Type 0} (r : Ring A) where
   open r use {◌⊕◌, ◌⊗◌, nil, one, neg}
@@ -39,10 +39,6 @@ module _ {A : Type 0} (r : Ring A) where
     -- the product
     pub value-product_of : (f g : Polynomial) → value r xs (product_of p f g) ≡ value r xs f ⊗ value r xs g
     value-product_of f g = weighted_sum-collected r p characteristic (monomial_value r xs) (term_products f g) ∙ weighted_sum-multiplicative r (monomial_value r xs) (monomial_value-product xs) f g
-
-    -- the negative
-    pub value-negative_of : (n : ℕ) (f : Polynomial) → IsPolynomial p n f → value r xs (negative_of p f) ≡ neg (value r xs f)
-    value-negative_of = weighted_sum-negative_of r p characteristic (monomial_value r xs)
 
     -- the difference
     pub value-difference_of : (n : ℕ) (f g : Polynomial) → IsPolynomial p n g → value r xs (difference_of p f g) ≡ value r xs f ⊕ neg (value r xs g)
