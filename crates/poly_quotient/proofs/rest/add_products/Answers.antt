@@ -26,5 +26,5 @@ loop-u-preserved c =
 
 pub returns-clause-sum : goal.returns-clause-sum
 returns-clause-sum c =
-    products_added c.args.f VARS c.prime.ensures.prime c.args.t c.args.g.now (heap_items c.args.products.now) (heap_items c.loop-u.products) c.requires.term c.requires.over (lengths_of c.args.f VARS [] (heap_items c.args.products.now) c.requires.rest) (lengths_of c.args.f VARS [] (heap_items c.loop-u.products) c.loop-u.invariant.0)
+    products_added c.args.f VARS c.facts.ensures.prime c.args.t c.args.g.now (heap_items c.args.products.now) (heap_items c.loop-u.products) c.requires.term c.requires.over (lengths_of c.args.f VARS [] (heap_items c.args.products.now) c.requires.rest) (lengths_of c.args.f VARS [] (heap_items c.loop-u.products) c.loop-u.invariant.0)
     (products_end c.args.f c.args.t c.args.g.now (heap_items c.args.products.now ++ map (reduced_product c.args.f c.args.t) c.args.g.now) (heap_items c.loop-u.products) c.loop-u.u-index c.loop-u-test.false c.loop-u.invariant.1)
