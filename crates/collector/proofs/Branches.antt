@@ -2,7 +2,6 @@
 use Rattle.std.proofs.Common.{◌≡◌, ℕ, suc, ◌+◌, ◌-◌, ◌<◌, ◌≤◌, List, [], ◌∷◌, ◌++◌, length, sym, ap, ◌∙◌, arith, append_assoc, append-nil, length-append}
 use Rattle.std.specs.List.{AllByRecursion}
 use Rattle.split_paths.specs.Walk.{numbered_paths}
-use Rattle.split_paths.proofs.Lists.{all_append}
 use Rattle.collector.specs.Branches.{later_below}
 
 -- one level more: first the later children there
@@ -66,11 +65,7 @@ last_child is ns q ms i n is_q ns_ms same none =
       fronts,
     )
 
--- numbers from 1 on, and one more
-pub from_one : (q : List ℕ) (i : ℕ) → AllByRecursion (λ j. 1 ≤ j) q → 1 ≤ i
-    → AllByRecursion (λ j. 1 ≤ j) (q ++ i ∷ [])
-from_one q i all one = all_append (λ j. 1 ≤ j) q (i ∷ []) all (one, tt)
-
+-- numbers from 1 on, but for the last
 pub front_from_one : (q : List ℕ) (i : ℕ) → AllByRecursion (λ j. 1 ≤ j) (q ++ i ∷ [])
     → AllByRecursion (λ j. 1 ≤ j) q
 front_from_one [] i all = tt

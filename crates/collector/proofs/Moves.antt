@@ -177,9 +177,6 @@ module _ {L : Type 0} (events : List (Event L)) where
         only = λ path noted. one.only path (two.only path noted);
       }
 
-  pub stays_itself : (c : Notes L) → IsCollector events c → StaysSame events c c
-  stays_itself c walk = record { walk = walk; noted = same_notes c; gives = refl; ahead = omega arith }
-
   pub stays_then : (a b c : Notes L) → StaysSame events a b → StaysSame events b c → StaysSame events a c
   stays_then a b c one two =
       record {
@@ -192,10 +189,6 @@ module _ {L : Type 0} (events : List (Event L)) where
   pub goes_then : (a b c : Notes L) → GoesOn events a b → StaysSame events b c → GoesOn events a c
   goes_then a b c one two =
       record { stays = stays_then a b c one.stays two; fewer = omega (arith, one.fewer, two.ahead) }
-
-  pub stays_goes : (a b c : Notes L) → StaysSame events a b → GoesOn events b c → GoesOn events a c
-  stays_goes a b c one two =
-      record { stays = stays_then a b c one two.stays; fewer = omega (arith, one.ahead, two.fewer) }
 
   -- what an advance does, after moves that hand out nothing
   pub stays_advances : (a b c : Notes L) (answer : Advance L) → StaysSame events a b → HasAdvanced events b c answer

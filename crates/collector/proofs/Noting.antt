@@ -35,14 +35,6 @@ keeps_room path met before after old new room put grows fits p =
     subst (λ (o : Option (Met _)). IfSome o (λ m. length p < new)) (sym (put p))
     (room_by path p met (waits_at before p) old new (slice_cmp nat_cmp path p) refl (room p) grows fits)
 
-grows_by : {L : Type 0} (p : List ℕ) (waits : Option (Met L)) (old new : ℕ) → IfSome waits (λ m. length p < old) → old ≤ new
-    → IfSome waits (λ m. length p < new)
-grows_by p None old new holds grows = tt
-grows_by p (Some m) old new holds grows = omega (arith, holds)
-
-pub more_room : {L : Type 0} (waiting : List (List ℕ × Met L)) (old new : ℕ) → HasRoom waiting old → old ≤ new → HasRoom waiting new
-more_room waiting old new room grows p = grows_by p (waits_at waiting p) old new (room p) grows
-
 module _ {L : Type 0} (events : List (Event L)) where
   -- an event that is ahead was put where nothing else has changed
   pub record IsPut (old new : Notes L) (path : List ℕ) (met : Met L) : Type 0 where

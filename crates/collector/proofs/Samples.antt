@@ -1,5 +1,5 @@
 -- The trees on which the walk is tried are trees.
-use Rattle.std.proofs.Common.{◌≡◌, ℕ, zero, suc, ◌+◌, ◌-◌, ◌<◌, List, [], ◌∷◌, ◌++◌, refl, sym, ap, ◌∙◌, subst, arith, append_assoc, All, Contains, take, drop, length, slice_index_or}
+use Rattle.std.proofs.Common.{◌≡◌, ℕ, zero, suc, ◌+◌, ◌-◌, ◌<◌, List, [], ◌∷◌, ◌++◌, refl, sym, ap, subst, arith, append_assoc, All, Contains, take, drop, length, slice_index_or}
 use Rattle.std.proofs.lemmas.List.Elements.{All-append, All-take, All-drop, Contains-get_or}
 use Rattle.split_paths.specs.declared.event.Event.{Event}
 use Rattle.split_paths.specs.declared.event.Event.TheVariants.{Split, Leaf}

@@ -1,11 +1,11 @@
 -- The lanes of a new hub, made one after the other.
-use Rattle.std.proofs.Common.{◌≡◌, ℕ, suc, ◌+◌, List, [], ◌∷◌, ◌++◌, map, length, sym, refl, ap, ◌∙◌, subst, arith, length-append}
+use Rattle.std.proofs.Common.{◌≡◌, ℕ, suc, ◌+◌, List, [], ◌∷◌, ◌++◌, map, length, sym, refl, ap, subst, arith, length-append}
 use Rattle.std.proofs.lemmas.List.{map-append}
 use Rattle.std.specs.List.{AllByRecursion}
 use Rattle.split_paths.proofs.Lists.{all_append}
 use Rattle.event_lanes.specs.declared.rule.Back.{Back}
 use Rattle.event_lanes.specs.Posts.{AreNumbered}
-use Rattle.event_lanes.specs.Views.{HubView, LaneView, DrainView, back_of, AreNewLanes}
+use Rattle.event_lanes.specs.Views.{HubView, LaneView, back_of}
 
 -- one number more
 numbered_more : {A : Type 0} (i : ℕ) (backs : List (Back A)) (next : Back A)
@@ -30,9 +30,6 @@ module _ {L : Type 0} where
     pub empty : AllByRecursion (λ (lane : LaneView L). lane.put ≡ []) lanes
     pub all : length lanes ≡ number
 
-  pub dealt_none : (hub : HubView) (count : ℕ) → AreDealt hub [] count 0
-  dealt_none hub count = record { hubs = tt; counts = tt; numbered = tt; empty = tt; all = refl }
-
   pub dealt_more : (hub : HubView) (lanes : List (LaneView L)) (count number : ℕ) (next : LaneView L)
       → AreDealt hub lanes count number
       → next ≡ record { hub = hub.name; lanes = count; number = number; put = [] }
@@ -50,22 +47,4 @@ module _ {L : Type 0} where
         empty = all_append _ lanes (next ∷ []) dealt.empty (ap (λ (lane : LaneView L). lane.put) is, tt);
         all = (let all : length lanes ≡ number = dealt.all in
             let one : length (next ∷ []) ≡ 1 = refl in omega (arith, length-append lanes (next ∷ [])));
-      }
-
-  pub dealt_all : (hub : HubView) (lanes : List (LaneView L)) (count number : ℕ) (drain : DrainView L)
-      → AreDealt hub lanes count number
-      → number ≡ count
-      → drain ≡ record { hub = hub.name; made = number; taken = []; backs = [] }
-      → AreNewLanes hub lanes drain count
-  dealt_all hub lanes count number drain dealt end is =
-      record {
-        hubs = dealt.hubs;
-        counts = dealt.counts;
-        numbered = dealt.numbered;
-        empty = dealt.empty;
-        all = dealt.all ∙ end;
-        of_hub = ap (λ (d : DrainView L). d.hub) is;
-        made = ap (λ (d : DrainView L). d.made) is ∙ end;
-        none_taken = ap (λ (d : DrainView L). d.taken) is;
-        none_back = ap (λ (d : DrainView L). d.backs) is;
       }

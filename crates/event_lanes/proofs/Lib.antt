@@ -5,4 +5,3 @@ pub mod OpenLanes
 pub mod Posting
 pub mod Lessons
 pub mod Dealing
-pub mod Backs

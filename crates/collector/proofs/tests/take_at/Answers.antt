@@ -1,5 +1,5 @@
 -- What is left, and what is taken, was there.
-use Rattle.std.proofs.Common.{◌≡◌, ℕ, ◌<◌, ◌∙◌, ◌%◌, length, subst, arith}
+use Rattle.std.proofs.Common.{◌≡◌, ◌<◌, ◌∙◌, ◌%◌, length, subst, arith}
 use Rattle.std.proofs.Math.Nat.{mod-lt}
 use Rattle.split_paths.specs.Key.{IsTrueEvent}
 use Rattle.collector.proofs.Samples.{left_over, taken_out}
