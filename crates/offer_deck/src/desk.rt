@@ -45,6 +45,7 @@ impl<X: Splitter, N: Named<X::Task, X::Leaf>> Model for Desk<X, N> {
 }
 
 impl<X: Splitter, N: Named<X::Task, X::Leaf>> Desk<X, N> {
+    #[tactic(auto, using(crate::proofs::Deals::begins))]
     pub(crate) fn new(alloc: Global, room: u32) -> Result<Desk<X, N>, AllocError>
         requires { 1 ≤ room }
         ensures room { IfOk result (λ desk. desk.room ≡ room) }
