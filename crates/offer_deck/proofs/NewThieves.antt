@@ -1,7 +1,6 @@
 -- The thieves of a new deck, made one after the other.
-use Rattle.std.proofs.Common.{◌≡◌, ℕ, ◌+◌, List, [], ◌∷◌, ◌++◌, length, sym, refl, ap, ◌∙◌, subst, arith, length-append}
-use Rattle.std.specs.List.{AllByRecursion}
-use Rattle.split_paths.proofs.Lists.{all_append, all_weaker}
+use Rattle.std.proofs.Common.{◌≡◌, ℕ, ◌+◌, List, [], ◌∷◌, ◌++◌, length, sym, refl, ap, subst, arith, length-append}
+use Rattle.split_paths.proofs.Lists.{all_append}
 use Rattle.offer_deck.specs.Desks.{DeskView}
 use Rattle.offer_deck.specs.Dealt.{AreNewThieves}
 use Rattle.offer_deck.specs.Views.{ThiefView}
