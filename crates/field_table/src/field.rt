@@ -23,17 +23,17 @@ pub struct Field {
     reciprocal: u64,
 }
 
-/// A product of two residues, times a reciprocal, has 64 bits.
-const SCALE: u64 = 0x4000_0000_0000;
+/// One more than the greatest number that is reduced.
+const SCALE: u128 = 0x1_0000_0000_0000_0000;
 
 impl Model for Field {
     ghost Value = { ℕ };
 
     ghost view = { λ f. f.prime };
 
-    ghost invariant = { λ f. Contains field_primes f.prime × (f.reciprocal ≡ 2 ^ 46 / f.prime) };
+    ghost invariant = { λ f. Contains field_primes f.prime × (f.reciprocal ≡ 2 ^ 64 / f.prime) };
 
-    ghost inverse = { λ p. record { prime = p; reciprocal = 2 ^ 46 / p } };
+    ghost inverse = { λ p. record { prime = p; reciprocal = 2 ^ 64 / p } };
 
     ghost inverse_ok = { λ f holds. ap (λ r. record { prime = f.prime; reciprocal = r }) (sym holds.1) };
 }
@@ -48,7 +48,7 @@ impl Field {
         if PRIMES.contains(&p) {
             Ok(Field {
                 prime: p as u32,
-                reciprocal: SCALE / p,
+                reciprocal: (SCALE / p as u128) as u64,
             })
         } else {
             Err(NotInTable { asked: p })
@@ -115,12 +115,7 @@ impl Field {
         ensures residue { result < self }
     {
         self.facts();
-        let p = self.prime;
-        let product = a as u64 * b as u64;
-        // The quotient, or one less: multiplications take less time than a division.
-        let quotient = (product * self.reciprocal) >> 46;
-        let rest = (product - quotient * p as u64) as u32;
-        if rest < p { rest } else { rest - p }
+        self.residue(a as u64 * b as u64)
     }
 
     /// The inverse of `a`.
@@ -147,7 +142,11 @@ impl Field {
         ensures value { result ≡ n % self }
         ensures residue { result < self }
     {
-        (n % self.prime as u64) as u32
+        let p = self.prime;
+        // The quotient, or one less: multiplications take less time than a division.
+        let quotient = ((n as u128 * self.reciprocal as u128) >> 64) as u64;
+        let rest = (n - quotient * p as u64) as u32;
+        if rest < p { rest } else { rest - p }
     }
 }
 
