@@ -43,7 +43,7 @@ impl Poly {
     }
 
     /// The polynomial of terms in canonical form over a field.
-    pub(crate) fn over(f: Field, terms: Vec<(Mono, u32)>) -> Poly
+    pub fn over(f: Field, terms: Vec<(Mono, u32)>) -> Poly
         requires canonical { IsPolynomial f VARS terms.items }
         requires small { HasSmallExponents terms.items }
         ensures { result ≡ terms.items }

@@ -8,8 +8,8 @@ use field_table::Field;
 use mono_words::{Mono, VARS};
 use std::alloc::{AllocError, Global};
 
-/// The fewest pairs of terms that are multiplied in a box.
-const FEWEST_PAIRS: usize = 128;
+/// The fewest terms of both factors that are multiplied in a box: merges take less time below.
+const FEWEST_TERMS: usize = 6;
 
 /// The most places of a box, which takes 16 bytes for each.
 const MOST_PLACES: usize = 1 << 24;
@@ -72,8 +72,7 @@ pub fn product(
     ensures value { IfOk result (λ r. r.items ≡ product_of f short.now long.now) }
     ensures over { IfOk result (λ r. IsPolynomial f VARS r.items) }
 {
-    // For few pairs a box costs more than it saves.
-    if short.len() > 1 && long.len() > 1 && short.len() * long.len() >= FEWEST_PAIRS {
+    if short.len() >= FEWEST_TERMS && long.len() >= FEWEST_TERMS {
         let most = 2 * short.len() * long.len();
         if most <= MOST_PLACES {
             if let Some((sides, size)) = sides_of_product(alloc, short, long, most)? {
