@@ -1,0 +1,12 @@
+ghost use Rattle.step_bounds.specs.Bounds.{LinearSystemsAreNeverStopped};
+ghost use Rattle.step_bounds.specs.Terms.{TermsAreFew};
+
+/// Polynomials of low degree have few terms.
+pub fn terms_are_few()
+    ensures { TermsAreFew }
+{}
+
+/// A linear system ends within limits that are known in advance.
+pub fn linear_systems_are_never_stopped()
+    ensures { LinearSystemsAreNeverStopped }
+{}
