@@ -38,6 +38,14 @@ abbrev pub stopped_line : List ℕ → Why → List ℕ
 stopped_line path why =
     codes "stopped " ++ (path_text path ++ (codes " " ++ (cause_text why ++ codes "\n")))
 
+-- the number that a system was made from, how many chains its answer has, and how many polynomials
+-- these have together
+abbrev pub summary_lines : ℕ → ℕ → ℕ → List ℕ
+summary_lines k chains polys =
+    codes "made " ++ (decimal k
+    ++ (codes "\nchains " ++ (decimal chains
+    ++ (codes "\npolys " ++ (decimal polys ++ codes "\n")))))
+
 -- the refusal of a text, with its number, its line and its byte
 abbrev pub refused_line : ℕ → ℕ → ℕ → List ℕ
 refused_line number line byte =

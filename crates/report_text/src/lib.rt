@@ -13,7 +13,9 @@ pub use laws::{
     printed_nonzero_lines_are_read, printed_nonzero_lines_are_spelled,
     printed_polynomials_are_read, printed_polynomials_are_spelled,
 };
-pub use line::{print_end, print_refused, print_stopped, print_too_long, print_usage};
+pub use line::{
+    print_end, print_refused, print_stopped, print_summary, print_too_long, print_usage,
+};
 pub use poly::{print_nonzero, print_poly};
 pub use status::Status;
 

@@ -1,5 +1,5 @@
 ghost use Rattle.std.specs.Prelude.{◌≡◌, IfOk, string_bytes};
-ghost use Rattle.report_text.specs.Lines.{end_line, refused_line, stopped_line, too_long_line, usage_line};
+ghost use Rattle.report_text.specs.Lines.{end_line, refused_line, stopped_line, summary_lines, too_long_line, usage_line};
 
 use split_paths::{Path, Why};
 use std::alloc::{AllocError, Global};
@@ -56,4 +56,11 @@ pub fn print_stopped(alloc: Global, path: &Path, why: Why) -> Result<String, All
         Why::Steps => format!(in alloc; "stopped {place} steps\n"),
         Why::Size => format!(in alloc; "stopped {place} size\n"),
     }
+}
+
+/// The lines that stand for the chains of an answer to a made system.
+pub fn print_summary(alloc: Global, k: u32, chains: u64, polys: u64) -> Result<String, AllocError>
+    ensures { IfOk result (λ text. string_bytes text ≡ summary_lines k chains polys) }
+{
+    format!(in alloc; "made {k}\nchains {chains}\npolys {polys}\n")
 }

@@ -302,6 +302,16 @@ fn an_answer_ends_with_a_count_or_a_cause(rt: HostRuntime) -> Result<(), Fail> {
 }
 
 #[test]
+fn a_summary_counts_chains_and_polynomials(rt: HostRuntime) -> Result<(), Fail> {
+    let alloc = rt.alloc();
+    assert_eq!(rt;
+        print_summary(alloc, 7, 34, 180)?.as_str(),
+        "made 7\nchains 34\npolys 180\n"
+    );
+    Ok(())
+}
+
+#[test]
 fn statuses_have_numbers(rt: HostRuntime) -> Result<(), Fail> {
     for (status, number) in [
         (Status::Chains, 0),

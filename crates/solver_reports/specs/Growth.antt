@@ -1,4 +1,4 @@
--- How a report grows with the events of a tree.
+-- How a report and its counts grow with the events of a tree.
 use Rattle.std.specs.Prelude.{◌≡◌, ℕ, Bool, true, false, List, ◌∷◌, ◌++◌, All}
 use Rattle.split_paths.specs.Answer.{answer_of}
 use Rattle.split_paths.specs.declared.event.Event.{Event}
@@ -9,7 +9,7 @@ use Rattle.finish_rules.specs.Leaves.{Leaf}
 use Rattle.report_text.specs.Polynomials.{IsInLeast}
 use Rattle.report_text.specs.Certified.{IsNamedCertificate}
 use Rattle.report_text.specs.Answers.{is_stopped}
-use Rattle.solver_reports.specs.Walks.{Front, later_text}
+use Rattle.solver_reports.specs.Walks.{Counts, Front, counts_behind, later_text}
 
 -- each variable that occurs in the chain or in a certificate has one of k names, and certificates
 -- have as many cofactors as there are polynomials below
@@ -44,3 +44,16 @@ Grows names event old new false =
 Grows names event old new true =
     (events : List (Event Leaf))
     → (report_behind names old (event ∷ events) ≡ new.text) × (stops (event ∷ events) ≡ true)
+
+-- the counts of these events behind a front
+abbrev pub events_counted : Counts → List (Event Leaf) → Counts
+events_counted front events = counts_behind front.chains front.polys (answer_of events)
+
+-- after an event the counts go on, or they are whole and stopped
+abbrev pub GrowsTo : Event Leaf → Counts → Counts → Bool → Type 0
+GrowsTo event old new false =
+    ((events : List (Event Leaf))
+    → events_counted old (event ∷ events) ≡ events_counted new events)
+    × (new.stop ≡ old.stop)
+GrowsTo event old new true =
+    (events : List (Event Leaf)) → events_counted old (event ∷ events) ≡ new

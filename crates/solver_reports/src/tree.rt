@@ -3,10 +3,11 @@ ghost use Rattle.split_paths.specs.Answer.{answer_of};
 ghost use Rattle.split_paths.specs.Tree.{events_of, events_to_come};
 ghost use Rattle.finish_rules.specs.Leaves.{Leaf};
 ghost use Rattle.report_text.specs.Polynomials.{IsInLeast};
-ghost use Rattle.solver_reports.specs.Walks.{walk_of};
+ghost use Rattle.solver_reports.specs.Walks.{counts_of, walk_of};
 ghost use Rattle.solver_reports.specs.Growth.{IsPrintableLeaf};
 
 use crate::report::Report;
+use crate::tally::Tally;
 use certificates::Leaf;
 use generators::{Generator, Turn};
 use sparse_poly::{Names, Polys};
@@ -64,6 +65,32 @@ pub fn walk<X: Splitter<Leaf = Leaf>>(
                     stopped: false,
                 });
             }
+            Err(_) => return Err(AllocError),
+        }
+    }
+}
+
+/// Walks the tree below an offer, and counts its answer. No text of a chain is built.
+pub fn count<X: Splitter<Leaf = Leaf>>(
+    alloc: Global,
+    splitter: &X,
+    root: Offer<X>,
+) -> Result<Tally, AllocError>
+    requires { X.lawful_task splitter.now root.task }
+    ensures { IfOk result (λ tally. tally
+        ≡ counts_of (answer_of (events_of (X.step splitter.now) root))) }
+{
+    let mut tally = Tally::new();
+    let mut generator = Generator::of(alloc, root)?;
+    loop {
+        match generator.turn(splitter) {
+            Ok(Turn::Quiet) => {}
+            Ok(Turn::Event(event)) => {
+                if tally.note(event)? {
+                    return Ok(tally);
+                }
+            }
+            Ok(Turn::Done) => return Ok(tally),
             Err(_) => return Err(AllocError),
         }
     }
