@@ -14,3 +14,5 @@ pub mod NewNames
 pub mod OtherPrimes
 pub mod MoreInputs
 pub mod AcceptedTexts
+mod MadeSystems
+mod Examples

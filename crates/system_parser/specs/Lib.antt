@@ -4,3 +4,4 @@ pub mod Powers
 pub mod Readings
 pub mod Sums
 pub mod Systems
+pub mod Made

@@ -8,6 +8,7 @@ mod faults;
 mod frames;
 mod heads;
 mod lines;
+mod made_systems;
 mod names;
 mod numbers;
 mod powers;
@@ -16,6 +17,7 @@ mod text;
 mod tokens;
 
 pub use errors::{ParseError, ParseFault};
+pub use made_systems::{MOST_MADE, made};
 pub use text::parse;
 
 #[cfg(test)]
