@@ -1,13 +1,11 @@
 -- What a call says of a quotient, from what the quotient is.
-use Rattle.std.proofs.Common.{◌≡◌, ◌≢◌, ℕ, ◌+◌, ◌<◌, ◌↔◌, Bool, true, false, [], ◌∷◌, ◌++◌, subst, Option, Some, None, IfSome, IfNone, IsNone, All, refl, sym, ap, ◌∙◌, arith}
-use Rattle.std.proofs.lemmas.List.Elements.{All-nil, All-cons}
+use Rattle.std.proofs.Common.{◌≡◌, ◌≢◌, ℕ, ◌+◌, ◌<◌, ◌≤◌, ◌↔◌, Bool, true, false, [], ◌∷◌, ◌++◌, subst, Option, Some, None, IfSome, IfNone, IsNone, refl, sym, ap, ◌∙◌, arith}
 use Rattle.polynomials.specs.Primes.{IsPrime}
 use Rattle.polynomials.specs.Monomials.{Monomial, exponent_of, monomial_product, MonomialDivides}
-use Rattle.polynomials.specs.Polynomials.{Term, term, Polynomial, IsPolynomial, product_of}
+use Rattle.polynomials.specs.Polynomials.{term, Polynomial, IsPolynomial, product_of}
 use Rattle.polynomials.specs.Views.{degree_in}
 use Rattle.polynomials.specs.Fits.{fits}
 use Rattle.polynomials.proofs.Exponents.{exponent_of-product}
-use Rattle.polynomials.proofs.Integral.{quotient_is_unique}
 use Rattle.sparse_poly.specs.Values.{HasValueOfProduct}
 use Rattle.sparse_poly.proofs.ValueClauses.{has_value_of_product}
 use Rattle.division_rules.specs.Quotients.{quotient_within}
@@ -15,11 +13,6 @@ use Rattle.division_rules.proofs.Quotients.{quotient_within_exact, quotient_with
 use Rattle.division_rules.proofs.QuotientFacts.{quotient_within_degree}
 use Rattle.division_rules.proofs.QuotientCases.{quotient_within_none, quotient_within_none_iff}
 use Rattle.poly_quotient.proofs.LastTerms.{last_divides}
-
--- the coefficients of a polynomial are residues
-pub All_residues : (p n : ℕ) (f : Polynomial) → IsPolynomial p n f → All (λ (t : Term). t.1 < p) f
-All_residues p n [] i = All-nil (λ (t : Term). t.1 < p)
-All_residues p n (t ∷ f) i = All-cons (λ (u : Term). u.1 < p) t f i.2 (All_residues p n f i.4)
 
 -- a test that fails exactly where there is nothing holds where there is something
 pub some_then_true : {X : Type 0} (o : Option X) (x : X) (b : Bool) → (IsNone o ↔ (b ≡ false)) → o ≡ Some x → b ≡ true
@@ -52,17 +45,15 @@ module _ (p n w : ℕ) (prime : IsPrime p) (a b : Polynomial) (i : IsPolynomial 
         let h = degrees_a v in
         omega arith
 
-  -- a polynomial whose product with the divisor fits and is the dividend is the quotient
-  pub confirmed_by_product : (q : Polynomial) → IsPolynomial p n q → product_of p q b ≡ a → fits w q b ≡ true → quotient_within p w a b ≡ Some q
-  confirmed_by_product q k exact fit = go (quotient_within p w a b) refl
-    where
-      go : (o : Option Polynomial) → quotient_within p w a b ≡ o → quotient_within p w a b ≡ Some q
-      go None e = absurd ((quotient_within_none_iff p n w a b prime i j nonzero).0 e q k exact fit)
-      go (Some r) e = e ∙ ap Some (quotient_is_unique p n r q b prime (IsPolynomial-quotient_within p n w a b r positive i j e) k j nonzero (quotient_within_exact p w a b r e ∙ sym exact))
-
   -- what is said of a quotient that is there
   pub canonical_of : (q : Polynomial) → quotient_within p w a b ≡ Some q → IsPolynomial p n q
   canonical_of q e = IsPolynomial-quotient_within p n w a b q positive i j e
+
+  pub small_of : (q : Polynomial) → quotient_within p w a b ≡ Some q → a ≢ [] → ((v : ℕ) → degree_in v a ≤ 65535) → (v : ℕ) → degree_in v q ≤ 65535
+  small_of q e some small v =
+      let adds = quotient_within_degree p n w a b q prime i j e some v in
+      let most = small v in
+      omega arith
 
   pub exact_of : (r : Option Polynomial) → r ≡ quotient_within p w a b → IfSome r (λ q. product_of p q b ≡ a)
   exact_of None e = tt

@@ -7,3 +7,4 @@ pub mod LastTerms
 pub mod RestSums
 pub mod RestItems
 pub mod RestTurns
+pub mod BegunDivisions

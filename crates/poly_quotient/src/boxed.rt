@@ -1,7 +1,8 @@
-ghost use Rattle.std.specs.Prelude.{◌≡◌, ◌≢◌, ◌<◌, [], Some, All, IfOk, IfSome};
-ghost use Rattle.polynomials.specs.Polynomials.{IsPolynomial};
-ghost use Rattle.division_rules.specs.Quotients.{quotient_within};
+ghost use Rattle.std.specs.Prelude.{◌≡◌, ◌≢◌, ◌*◌, ◌<◌, ◌≤◌, [], ◌∷◌, length, All, IfOk, IfSome, IsTrue};
+ghost use Rattle.polynomials.specs.Polynomials.{Term, Polynomial, StartsBelow, IsPolynomial, difference_of};
+ghost use Rattle.division_rules.proofs.Divisions.{IsDivision};
 
+use crate::last::last_monomial;
 use field_table::Field;
 use mono_words::{Mono, VARS};
 use sparse_poly::{Poly, Work};
@@ -22,51 +23,88 @@ struct Slot {
     right: Option<u32>,
 }
 
-/// The quotient of `a` by `b`, where the division in a box finds one that the product confirms.
-pub fn confirmed(
+/// A division on the way: the terms of the quotient that a division in a box finds, and what their
+/// product with `b` leaves of `a`. Where that is 0, they are the quotient.
+pub fn begun(
     alloc: Global,
-    field: Field,
-    width: u32,
+    w: Work,
     a: &Poly,
     b: &Poly,
-) -> Result<Option<Vec<(Mono, u32)>>, AllocError>
-    requires left { IsPolynomial field VARS a.now }
-    requires right { IsPolynomial field VARS b.now }
+    room: Mono,
+) -> Result<Option<(Poly, Poly)>, AllocError>
+    requires left { IsPolynomial w.field VARS a.now }
+    requires right { IsPolynomial w.field VARS b.now }
     requires nonzero { b.now ≢ [] }
-    ensures { IfOk result (λ r. IfSome r (λ q.
-        quotient_within field width a.now b.now ≡ Some q.items)) }
+    ensures division { IfOk result (λ r. IfSome r (λ d. (u : Term) (g : Polynomial) →
+        b.now ≡ u ∷ g → IsDivision w.field VARS u g a.now d.0 d.1)) }
+    ensures few { IfOk result (λ r. IfSome r (λ d. length d.0 * length b.now ≤ w.width)) }
 {
+    let Work { field, width } = w;
     field.facts();
-    let Some(terms) = candidate(alloc, field, a.degrees(), a.terms(), b.terms())? else {
+    let Some(terms) = guessed(alloc, Work { field, width }, a, b, room)? else {
         return Ok(None);
     };
     let quotient = Poly::from_terms(alloc, field, &terms)?;
-    match quotient.mul(Work { field, width }, b)? {
-        Some(product) if product == *a => Ok(Some(Vec::from_slice(alloc, quotient.terms())?)),
-        _ => Ok(None),
+    if quotient.is_zero() {
+        return Ok(None);
+    }
+    let Some(product) = quotient.mul(Work { field, width }, b)? else {
+        return Ok(None);
+    };
+    let rest = left_of(alloc, field, a, &product)?;
+    // Nothing is promised of the terms: what is left tells whether each quotient begins with them.
+    let lead = b.terms()[0].0;
+    let last = last_monomial(quotient.terms());
+    if last.fits(lead) && starts_below(rest.terms(), last.product(lead)) {
+        Ok(Some((quotient, rest)))
+    } else {
+        Ok(None)
     }
 }
 
-/// A guess at the quotient, by sums of 64 bits in a box: nothing is promised of it.
-fn candidate(
-    alloc: Global,
-    f: Field,
-    high: Mono,
-    a: &[(Mono, u32)],
-    b: &[(Mono, u32)],
-) -> Result<Option<Vec<(Mono, u32)>>, AllocError>
-    requires { IsPolynomial f VARS b.now }
-    ensures { IfOk result (λ r. IfSome r (λ q. All (λ t. t.1 < f) q.items)) }
+/// `a` without `product`: mostly they are the same, and nothing is left.
+fn left_of(alloc: Global, f: Field, a: &Poly, product: &Poly) -> Result<Poly, AllocError>
+    requires left { IsPolynomial f VARS a.now }
+    requires right { IsPolynomial f VARS product.now }
+    ensures { IfOk result (λ r. r ≡ difference_of f a.now product.now) }
 {
-    let (Some(first), Some(lead)) = (a.first(), b.first()) else {
+    f.facts();
+    if *a == *product {
+        return Ok(Poly::zero(alloc));
+    }
+    a.sub(f, product)
+}
+
+/// Whether the first monomial is less than `m`, or there is none.
+fn starts_below(terms: &[(Mono, u32)], m: Mono) -> bool
+    ensures { IsTrue result → StartsBelow m terms.now }
+{
+    match terms.first() {
+        None => true,
+        Some(first) => first.0 < m,
+    }
+}
+
+/// A guess at the terms of the quotient, by sums of 64 bits in a box: nothing is promised of it.
+fn guessed(
+    alloc: Global,
+    w: Work,
+    a: &Poly,
+    b: &Poly,
+    room: Mono,
+) -> Result<Option<Vec<(Mono, u32)>>, AllocError>
+    requires { IsPolynomial w.field VARS b.now }
+    ensures { IfOk result (λ r. IfSome r (λ q. All (λ t. t.1 < w.field) q.items)) }
+{
+    let (Some(first), Some(lead)) = (a.terms().first(), b.terms().first()) else {
         return Ok(None);
     };
-    if a.len() < FEWEST_TERMS || !lead.0.divides(first.0) {
+    if a.term_count() < FEWEST_TERMS || !lead.0.divides(first.0) {
         return Ok(None);
     }
-    match sides_of(alloc, high, a.len())? {
+    match sides_of(alloc, a.degrees(), a.term_count())? {
         None => Ok(None),
-        Some((sides, size)) => divided_in_box(alloc, f, &sides, size, a, b, f.inv(lead.1)),
+        Some((sides, size)) => Ok(Some(divided_in_box(alloc, w, &sides, size, a, b, room)?)),
     }
 }
 
@@ -80,7 +118,11 @@ fn sides_of(
     let most = count.saturating_mul(8).saturating_add(256).min(MOST_PLACES);
     let mut sides = Vec::new(alloc);
     let mut size: usize = 1;
-    for v in 0..VARS {
+    let variables = match high.greatest_variable() {
+        Some(v) => v.saturating_add(1).min(VARS),
+        None => 0,
+    };
+    for v in 0..variables {
         let side = high.exponent(v) as usize + 1;
         size = size.saturating_mul(side);
         if size > most {
@@ -95,13 +137,9 @@ fn sides_of(
 fn place(sides: &[usize], m: Mono) -> usize {
     let mut place: usize = 0;
     for v in (0..sides.len().min(VARS)).rev() {
-        let side = sides[v];
-        // A variable that doesn't occur has the side 1.
-        if side > 1 {
-            place = place
-                .wrapping_mul(side)
-                .wrapping_add(m.exponent(v) as usize);
-        }
+        place = place
+            .wrapping_mul(sides[v])
+            .wrapping_add(m.exponent(v) as usize);
     }
     place
 }
@@ -171,50 +209,69 @@ fn monomial_of(
     }
 }
 
-/// The division from the last slot down.
+/// The monomial of a slot by the first of `b`, where the quotient can have it.
+fn quotient_of(
+    slot: Slot,
+    a: &[(Mono, u32)],
+    quotient: &[(Mono, u32)],
+    b: &[(Mono, u32)],
+    room: Mono,
+) -> Option<Mono> {
+    let Some(monomial) = monomial_of(slot, a, quotient, b) else {
+        return None;
+    };
+    match b.first() {
+        Some(lead) if lead.0.divides(monomial) => {
+            let over = monomial.quotient(lead.0);
+            if over.divides(room) { Some(over) } else { None }
+        }
+        _ => None,
+    }
+}
+
+/// The division from the last slot down, up to the first term that the quotient can't have.
 fn divided_in_box(
     alloc: Global,
-    f: Field,
+    w: Work,
     sides: &[usize],
     size: usize,
-    a: &[(Mono, u32)],
-    b: &[(Mono, u32)],
-    inverse: u32,
-) -> Result<Option<Vec<(Mono, u32)>>, AllocError>
-    requires { inverse < f }
-    ensures { IfOk result (λ r. IfSome r (λ q. All (λ t. t.1 < f) q.items)) }
+    a: &Poly,
+    b: &Poly,
+    room: Mono,
+) -> Result<Vec<(Mono, u32)>, AllocError>
+    requires { IsPolynomial w.field VARS b.now }
+    ensures { IfOk result (λ q. All (λ t. t.1 < w.field) q.items) }
 {
+    let f = w.field;
     let mut quotient = Vec::new(alloc);
-    let Some(lead) = b.first() else {
-        return Ok(None);
+    let Some(lead) = b.terms().first() else {
+        return Ok(quotient);
     };
+    let inverse = f.inv(lead.1);
     let nothing = Slot {
         sum: 0,
         left: 0,
         right: None,
     };
-    let places = places_of(alloc, sides, b)?;
+    let places = places_of(alloc, sides, b.terms())?;
     let mut slots = vec![in alloc; nothing; size]?;
-    fill(&mut slots, sides, a);
+    fill(&mut slots, sides, a.terms());
     let mut i: u32 = 0;
     for k in (0..size).rev() {
         if k >= slots.len() {
-            return Ok(None);
+            return Ok(quotient);
         }
         let slot = slots[k];
         let c = f.residue(slot.sum);
         if c != 0 {
-            let Some(monomial) = monomial_of(slot, a, &quotient, b) else {
-                return Ok(None);
+            let Some(monomial) = quotient_of(slot, a.terms(), &quotient, b.terms(), room) else {
+                return Ok(quotient);
             };
-            if !lead.0.divides(monomial) {
-                return Ok(None);
-            }
-            let t = (monomial.quotient(lead.0), f.mul(c, inverse));
+            let t = (monomial, f.mul(c, inverse));
             add_row(&mut slots, place(sides, t.0), f.neg(t.1), i, &places);
             quotient.push(t)?;
             i = i.wrapping_add(1);
         }
     }
-    Ok(Some(quotient))
+    Ok(quotient)
 }

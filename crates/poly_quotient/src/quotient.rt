@@ -34,7 +34,8 @@ fn found(alloc: Global, w: Work, a: &Poly, b: &Poly) -> Result<Option<Poly>, All
     requires nonzero { b.now ≢ [] }
     ensures { IfOk result (λ r. r ≡ quotient_within w.field w.width a.now b.now) }
 {
-    w.field.facts();
+    let Work { field, width } = w;
+    field.facts();
     if a.is_zero() {
         return Ok(Some(Poly::zero(alloc)));
     }
@@ -47,8 +48,8 @@ fn found(alloc: Global, w: Work, a: &Poly, b: &Poly) -> Result<Option<Poly>, All
     if !low.divides(high) {
         return Ok(None);
     }
-    match divided(alloc, w, a, b, high.quotient(low))? {
-        None => Ok(None),
-        Some(terms) => Ok(Some(Poly::from_terms(alloc, w.field, &terms)?)),
-    }
+    let Some(terms) = divided(alloc, Work { field, width }, a, b, high.quotient(low))? else {
+        return Ok(None);
+    };
+    Ok(Some(Poly::over(field, terms)))
 }

@@ -3,8 +3,9 @@ use Rattle.std.proofs.Common.{◌<◌, ◌≤◌, ◌+◌, ◌-◌, ◌*◌, ◌
 use Rattle.std.specs.BinaryHeap.{heap_items}
 use Rattle.mono_words.specs.declared.mono.TheConstants.{VARS}
 use Rattle.polynomials.specs.Polynomials.{term}
+use Rattle.division_rules.proofs.Divisions.{IsDivision}
 use Rattle.poly_quotient.specs.Rests.{sum_of_rest}
-use Rattle.poly_quotient.proofs.Turns.{first_and_later, less_room, begins, term_is, stops_undivided, stops_long, stops_high, turn, opposite_canonical, opposite_product, later_canonical, later_fits, done}
+use Rattle.poly_quotient.proofs.Turns.{first_and_later, less_room, term_is, stops_undivided, stops_long, stops_high, turn, opposite_canonical, opposite_product, later_canonical, later_fits, done}
 use Rattle.poly_quotient.proofs.RestTurns.{rest_begins, begun}
 use Rattle.poly_quotient.proofs.division.divided_by_terms.Goals as goal
 use Rattle.poly_quotient.proofs.division.divided_by_terms.Goals.{then-terms-w-via-then-terms-w, then-terms-w-via-else-terms-w+then-not-divides}
@@ -12,11 +13,12 @@ use Rattle.poly_quotient.proofs.division.divided_by_terms.Goals.{then-terms-w-vi
 pub loop-first-init : goal.loop-first-init
 loop-first-init c =
     let whole = first_and_later c.terms.result.now c.terms-2.result.now c.args.b.now c.index-terms-0.result c.terms.ensures.terms c.terms-2.ensures.terms c.requires.nonzero c.index-terms-0.is in
-    let all = c.of-rest.ensures.terms ∙ c.terms-3.ensures.terms in (
+    let d = c.requires.begun c.index-terms-0.result (take (length c.terms-2.result.now - 1) (drop 1 c.terms-2.result.now)) whole in (
       whole,
-      rest_begins c.args.w.field VARS c.args.a.now c.of-rest.result.terms.now (heap_items c.of-rest.result.products) all c.of-rest.ensures.products c.requires.left c.of-rest.ensures.order,
-      begins c.args.w.field VARS c.args.w.width c.facts.ensures.prime c.args.a.now c.args.b.now c.index-terms-0.result c.requires.left c.requires.right c.requires.some (take (length c.terms-2.result.now - 1) (drop 1 c.terms-2.result.now)) whole c.new-quotient.result.items (sum_of_rest c.args.w.field c.of-rest.result.terms.now (heap_items c.of-rest.result.products)) c.new-quotient.ensures.items (begun c.args.w.field VARS c.args.a.now c.of-rest.result.terms.now (heap_items c.of-rest.result.products) all c.of-rest.ensures.products c.requires.left),
-      (let none = ap length c.new-quotient.ensures.items in rw none (omega arith)),
+      rest_begins c.args.w.field VARS c.args.left.now c.of-rest.result.terms.now (heap_items c.of-rest.result.products) c.of-rest.ensures.terms c.of-rest.ensures.products d.rest_canonical c.of-rest.ensures.order,
+      subst (IsDivision c.args.w.field VARS c.index-terms-0.result (take (length c.terms-2.result.now - 1) (drop 1 c.terms-2.result.now)) c.args.a.now c.args.found.items)
+          (sym (begun c.args.w.field VARS c.args.left.now c.of-rest.result.terms.now (heap_items c.of-rest.result.products) c.of-rest.ensures.terms c.of-rest.ensures.products d.rest_canonical)) d,
+      c.requires.few,
     )
 
 pub returns-then-terms-w-clause-none : goal.returns-then-terms-w-clause-none
@@ -44,7 +46,7 @@ pub add_product-requires-clause-over : goal.add_product-requires-clause-over
 add_product-requires-clause-over c = later_canonical c.args.w.field VARS c.args.w.width c.facts.ensures.prime c.args.a.now c.args.b.now c.index-terms-0.result c.requires.left c.requires.right c.requires.some (take (length c.terms-2.result.now - 1) (drop 1 c.terms-2.result.now)) c.loop-first.invariant.0
 
 pub add_product-requires-clause-fit : goal.add_product-requires-clause-fit
-add_product-requires-clause-fit c = later_fits c.args.w.field VARS c.args.w.width c.facts.ensures.prime c.args.a.now c.args.b.now c.index-terms-0.result c.requires.left c.requires.right c.requires.some (take (length c.terms-2.result.now - 1) (drop 1 c.terms-2.result.now)) c.loop-first.invariant.0 c.terms-3.ensures.exponents c.quotient.result c.args.room c.requires.room (c.if-not-divides-2.ensures.0 refl)
+add_product-requires-clause-fit c = later_fits c.args.w.field VARS c.args.w.width c.facts.ensures.prime c.args.a.now c.args.b.now c.index-terms-0.result c.requires.left c.requires.right c.requires.some (take (length c.terms-2.result.now - 1) (drop 1 c.terms-2.result.now)) c.loop-first.invariant.0 c.facts-2.ensures.exponents c.quotient.result c.args.room c.requires.room (c.if-not-divides-2.ensures.0 refl)
 
 pub loop-first-smaller : goal.loop-first-smaller
 loop-first-smaller c =
@@ -66,4 +68,4 @@ loop-first-preserved c =
 
 pub returns-clause-quotient : goal.returns-clause-quotient
 returns-clause-quotient c =
-    done c.args.w.field VARS c.args.w.width c.facts.ensures.prime c.args.a.now c.args.b.now c.index-terms-0.result c.requires.left c.requires.right c.requires.some (take (length c.terms-2.result.now - 1) (drop 1 c.terms-2.result.now)) c.loop-first.invariant.0 c.terms-3.ensures.exponents c.loop-first.quotient.items (sum_of_rest c.args.w.field c.loop-first.rest.terms.now (heap_items c.loop-first.rest.products)) c.in_default.ensures.none c.loop-first.invariant.2 c.loop-first.invariant.3
+    done c.args.w.field VARS c.args.w.width c.facts.ensures.prime c.args.a.now c.args.b.now c.index-terms-0.result c.requires.left c.requires.right c.requires.some (take (length c.terms-2.result.now - 1) (drop 1 c.terms-2.result.now)) c.loop-first.invariant.0 c.facts-2.ensures.exponents c.loop-first.quotient.items (sum_of_rest c.args.w.field c.loop-first.rest.terms.now (heap_items c.loop-first.rest.products)) c.in_default.ensures.none c.loop-first.invariant.2 c.loop-first.invariant.3

@@ -1,10 +1,8 @@
 -- The last monomials and the degrees allow a quotient, and the division finds it.
-use Rattle.std.proofs.Common.{◌≡◌, ◌<◌, ◌∙◌, List, Some, IfSome, All, sym, ap, subst}
+use Rattle.std.proofs.Common.{◌≡◌, ◌∙◌, Some, IfSome, sym, ap, subst}
 use Rattle.mono_words.specs.declared.mono.TheConstants.{VARS}
-use Rattle.polynomials.specs.Polynomials.{Term, collected}
-use Rattle.polynomials.proofs.SamePolynomials.{collected_itself}
 use Rattle.division_rules.specs.Quotients.{quotient_within}
-use Rattle.poly_quotient.proofs.Clauses.{All_residues, none_of_last, none_of_degrees, room_of, canonical_of}
+use Rattle.poly_quotient.proofs.Clauses.{none_of_last, none_of_degrees, room_of, canonical_of, small_of}
 use Rattle.poly_quotient.proofs.quotient.found.Goals as goal
 
 pub last_monomial-last-requires : goal.last_monomial-last-requires
@@ -31,12 +29,13 @@ returns-then-not-divides-2 c =
 pub divided-requires-clause-room : goal.divided-requires-clause-room
 divided-requires-clause-room c = room_of c.args.w.field VARS c.args.w.width c.facts.ensures.prime c.args.a.now c.args.b.now c.requires.left c.requires.right c.requires.nonzero c.degrees-low.result c.degrees-high.result c.degrees-low.ensures c.degrees-high.ensures c.quotient.result c.quotient.ensures
 
-pub from_terms-requires : goal.from_terms-requires
-from_terms-requires c =
-    let canonical = canonical_of c.args.w.field VARS c.args.w.width c.facts.ensures.prime c.args.a.now c.args.b.now c.requires.left c.requires.right c.requires.nonzero c.in-Some.terms.items (subst (λ o. IfSome o (λ q. quotient_within c.args.w.field c.args.w.width c.args.a.now c.args.b.now ≡ Some q.items)) c.in-Some.is c.in_ok-divided.ensures.quotient) in
-    subst (λ (l : List Term). All (λ (t : Term). t.1 < c.args.w.field) l) (sym c.deref.ensures.value) (All_residues c.args.w.field VARS c.in-Some.terms.items canonical)
+pub over-requires-clause-canonical : goal.over-requires-clause-canonical
+over-requires-clause-canonical c = canonical_of c.args.w.field VARS c.args.w.width c.facts.ensures.prime c.args.a.now c.args.b.now c.requires.left c.requires.right c.requires.nonzero c.in-Some.terms.items (subst (λ o. IfSome o (λ q. quotient_within c.args.w.field c.args.w.width c.args.a.now c.args.b.now ≡ Some q.items)) c.in-Some.is c.in_ok-terms.ensures.quotient)
 
-pub returns-in_ok-from_terms-in-Some : goal.returns-in_ok-from_terms-in-Some
-returns-in_ok-from_terms-in-Some c =
-    let canonical = canonical_of c.args.w.field VARS c.args.w.width c.facts.ensures.prime c.args.a.now c.args.b.now c.requires.left c.requires.right c.requires.nonzero c.in-Some.terms.items (subst (λ o. IfSome o (λ q. quotient_within c.args.w.field c.args.w.width c.args.a.now c.args.b.now ≡ Some q.items)) c.in-Some.is c.in_ok-divided.ensures.quotient) in
-    ap Some (c.in_ok-from_terms-in-Some.ensures.value ∙ (ap (collected c.args.w.field) c.deref.ensures.value ∙ collected_itself c.args.w.field VARS c.in-Some.terms.items canonical)) ∙ sym (subst (λ o. IfSome o (λ q. quotient_within c.args.w.field c.args.w.width c.args.a.now c.args.b.now ≡ Some q.items)) c.in-Some.is c.in_ok-divided.ensures.quotient)
+pub over-requires-clause-small : goal.over-requires-clause-small
+over-requires-clause-small c =
+    small_of c.args.w.field VARS c.args.w.width c.facts.ensures.prime c.args.a.now c.args.b.now c.requires.left c.requires.right c.requires.nonzero c.in-Some.terms.items (subst (λ o. IfSome o (λ q. quotient_within c.args.w.field c.args.w.width c.args.a.now c.args.b.now ≡ Some q.items)) c.in-Some.is c.in_ok-terms.ensures.quotient)
+    (λ e. let f = c.if-is_zero.ensures.1 e in cc) c.terms.ensures.exponents
+
+pub returns : goal.returns
+returns c = ap Some c.over.ensures ∙ sym (subst (λ o. IfSome o (λ q. quotient_within c.args.w.field c.args.w.width c.args.a.now c.args.b.now ≡ Some q.items)) c.in-Some.is c.in_ok-terms.ensures.quotient)
