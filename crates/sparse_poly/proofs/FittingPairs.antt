@@ -1,5 +1,5 @@
 -- Pairs of terms that fit, by places and by parts.
-use Rattle.std.proofs.Common.{◌≡◌, ◌↔◌, ◌<◌, ◌≤◌, ◌+◌, ◌*◌, ℕ, true, zero, suc, List, [], ◌∷◌, ◌++◌, length, get_or, subst, sym, ap, inl, inr, arith}
+use Rattle.std.proofs.Common.{◌≡◌, ◌≢◌, ◌↔◌, ◌<◌, ◌≤◌, ◌+◌, ◌*◌, ℕ, true, zero, suc, List, [], ◌∷◌, ◌++◌, length, get_or, subst, sym, ap, inl, inr, arith}
 use Rattle.std.proofs.Math.Nat.{mul_comm}
 use Rattle.polynomials.specs.Monomials.{Monomial, exponent_of, ExponentsFit}
 use Rattle.polynomials.specs.Polynomials.{Term}
@@ -78,3 +78,13 @@ fits-from_degrees w f g some_f some_g narrow Fit means = (
     ]
   ]),
 )
+
+-- where a product fits whose factors aren't 0, the degrees add to what is allowed
+pub fitting_degrees : (w : ℕ) (f g : List Term) → f ≢ [] → g ≢ [] → fits w f g ≡ true → (v : ℕ) → degree_in v f + degree_in v g ≤ 65535
+fitting_degrees w f g some_f some_g fit v = elim ((fits_in_each_variable w f g).0 fit) [
+  | inl none ↦ absurd (some_f none)
+  | inr other ↦ elim other [
+    | inl none ↦ absurd (some_g none)
+    | inr both ↦ both.1 v
+  ]
+]

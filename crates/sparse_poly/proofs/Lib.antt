@@ -11,7 +11,6 @@ pub mod FittingPairs
 pub mod FirstVariables
 pub mod ValueClauses
 pub mod FirstItems
-pub mod SmallExponents
 mod PowerMonomials
 pub mod Leads
 pub mod BoxPlaces

@@ -1,5 +1,4 @@
 pub mod Signs
-pub mod Exponents
 pub mod Pairs
 pub mod Falling
 pub mod Values

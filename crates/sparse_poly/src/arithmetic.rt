@@ -47,17 +47,22 @@ impl Poly {
         ensures over { IfOk result (λ r. IfSome r (IsPolynomial w.field VARS)) }
         ensures values { IfOk result (λ r. IfSome r (HasValueOfProduct w.field self.now other.now)) }
     {
-        if !fits(w.width, self.terms(), other.terms()) {
+        if !fits(w.width, self, other) {
             return Ok(None);
         }
         let (alloc, f) = (self.alloc(), w.field);
+        if self.is_zero() || other.is_zero() {
+            return Ok(Some(Poly::zero(alloc)));
+        }
         f.facts();
         let terms = if self.term_count() <= other.term_count() {
-            product(alloc, f, self.terms(), other.terms())?
+            product(alloc, f, self, other)?
         } else {
-            product(alloc, f, other.terms(), self.terms())?
+            product(alloc, f, other, self)?
         };
-        Ok(Some(Poly::over(f, terms)))
+        // Without zero divisors degrees add.
+        let degrees = self.degrees().product(other.degrees());
+        Ok(Some(Poly::with_degrees(f, terms, degrees)))
     }
 
     /// The product by the variable `v` to the power `e`.
@@ -85,6 +90,6 @@ impl Poly {
         };
         f.facts();
         let terms = scaled(self.alloc(), f, f.inv(first.1), self.terms())?;
-        Ok(Poly::over(f, terms))
+        Ok(Poly::with_degrees(f, terms, self.degrees()))
     }
 }

@@ -5,7 +5,6 @@ ghost use Rattle.polynomials.specs.Views.{degree_in};
 ghost use Rattle.polynomials.proofs.SamePolynomials.{SameSums};
 ghost use Rattle.sparse_poly.specs.Boxes.{box_size, IsInside, place_of, placed, AreSlots, from_slots, slot_term, HavePlaces, IsBoxOf};
 
-use crate::fits::degrees;
 use field_table::Field;
 use mono_words::{Mono, VARS};
 use std::alloc::{AllocError, Global};
@@ -18,22 +17,22 @@ pub struct Slot {
     right: u32,
 }
 
-/// The sides of a box for the monomials of a product and its size, where that is at most `most`.
+/// The sides of a box for the monomials of a product of polynomials of the degrees `a` and `b`, and
+/// its size, where that is at most `most`.
 pub fn sides_of_product(
     alloc: Global,
-    short: &[(Mono, u32)],
-    long: &[(Mono, u32)],
+    a: Mono,
+    b: Mono,
     most: usize,
 ) -> Result<Option<(Vec<usize>, usize)>, AllocError>
     requires some { 0 < most }
     requires few { most ≤ 2 ^ 32 }
     ensures inside { IfOk result (λ r. IfSome r (λ found. (v : ℕ) →
-        degree_in v short.now + degree_in v long.now < get_or found.0.items v 1)) }
+        exponent_of v a + exponent_of v b < get_or found.0.items v 1)) }
     ensures variables { IfOk result (λ r. IfSome r (λ found. length found.0.items ≤ VARS)) }
     ensures size { IfOk result (λ r. IfSome r (λ found. found.1 ≡ box_size found.0.items)) }
     ensures most { IfOk result (λ r. IfSome r (λ found. found.1 ≤ most)) }
 {
-    let (a, b) = (degrees(short), degrees(long));
     let mut sides = Vec::new(alloc);
     let mut size = 1;
     for v in 0..variables_of(a.max_exponents(b)) {

@@ -1,6 +1,5 @@
 ghost use Rattle.std.specs.Prelude.{◌≡◌, ◌<◌, All, IfOk};
 ghost use Rattle.polynomials.specs.Polynomials.{IsPolynomial, collected};
-ghost use Rattle.sparse_poly.specs.Exponents.{HasSmallExponents};
 ghost use Rattle.sparse_poly.specs.Falling.{AreResidues, HaveVariables, IsFalling};
 
 use field_table::Field;
@@ -16,7 +15,6 @@ pub fn collected(
     requires { All (λ t. t.1 < f) terms.now }
     ensures value { IfOk result (λ r. r.items ≡ collected f terms.now) }
     ensures over { IfOk result (λ r. IsPolynomial f VARS r.items) }
-    ensures small { IfOk result (λ r. HasSmallExponents r.items) }
 {
     f.facts();
     let mut sorted = Vec::with_capacity(alloc, terms.len())?;

@@ -3,16 +3,18 @@ ghost use Rattle.polynomials.specs.Monomials.{exponent_of};
 ghost use Rattle.polynomials.specs.Views.{degree_in};
 ghost use Rattle.polynomials.specs.Fits.{fits};
 
+use crate::poly::Poly;
 use mono_words::Mono;
 
 /// Whether the product of two polynomials fits the width.
-pub fn fits(width: u32, a: &[(Mono, u32)], b: &[(Mono, u32)]) -> bool
+pub fn fits(width: u32, a: &Poly, b: &Poly) -> bool
     ensures { IsTrue result ↔ (fits width a.now b.now ≡ true) }
 {
-    if a.is_empty() || b.is_empty() {
+    if a.is_zero() || b.is_zero() {
         return true;
     }
-    a.len() as u128 * b.len() as u128 <= width as u128 && degrees(a).fits(degrees(b))
+    a.term_count() as u128 * b.term_count() as u128 <= width as u128
+        && a.degrees().fits(b.degrees())
 }
 
 /// The degree in each variable.

@@ -1,12 +1,12 @@
 ghost use Rattle.std.specs.Prelude.{◌≡◌, ◌<◌, ◌≤◌, ◌^◌, ◌↔◌, ℕ, [], length, All, IfOk, IsTrue};
 ghost use Rattle.std.specs.Cmp.{partial_equiv_from_equiv};
 ghost use Rattle.polynomials.specs.Equalities.{same_polynomial_equivalence};
-ghost use Rattle.polynomials.specs.Monomials.{most_exponent};
+ghost use Rattle.polynomials.specs.Monomials.{exponent_of, most_exponent};
 ghost use Rattle.polynomials.specs.Polynomials.{Term, IsPolynomial, collected, constant_of, same_polynomial};
 ghost use Rattle.polynomials.specs.Views.{degree_in};
-ghost use Rattle.sparse_poly.specs.Exponents.{HasSmallExponents};
 
 use crate::collect::collected;
+use crate::fits::degrees;
 use field_table::Field;
 use mono_words::{Mono, VARS};
 use std::alloc::{AllocError, Global};
@@ -17,39 +17,52 @@ use std::marker::Model;
 #[derive(Debug, Drop)]
 pub struct Poly {
     terms: Vec<(Mono, u32)>,
+    /// The degree in each variable.
+    degrees: Mono,
 }
 
 impl Model for Poly {
-    ghost use Rattle.std.specs.Prelude.{◌^◌, List};
+    ghost use Rattle.std.specs.Prelude.{◌≡◌, ◌^◌, ℕ, List};
     ghost use Rattle.mono_words.specs.declared.mono.TheConstants.{VARS};
+    ghost use Rattle.polynomials.specs.Monomials.{exponent_of};
     ghost use Rattle.polynomials.specs.Polynomials.{Term, IsPolynomial};
-    ghost use Rattle.sparse_poly.specs.Exponents.{HasSmallExponents};
+    ghost use Rattle.polynomials.specs.Views.{degree_in};
 
     ghost Value = { List Term };
 
     ghost view = { λ f. f.terms.items };
 
-    ghost invariant = { λ f. IsPolynomial (2 ^ 32) VARS f.terms.items × HasSmallExponents f.terms.items };
+    ghost invariant = { λ f. IsPolynomial (2 ^ 32) VARS f.terms.items
+        × ((v : ℕ) → exponent_of v f.degrees ≡ degree_in v f.terms.items) };
 }
 
 impl Poly {
     /// The polynomial of terms in canonical form.
     pub(crate) fn of(terms: Vec<(Mono, u32)>) -> Poly
-        requires canonical { IsPolynomial (2 ^ 32) VARS terms.items }
-        requires small { HasSmallExponents terms.items }
+        requires { IsPolynomial (2 ^ 32) VARS terms.items }
         ensures { result ≡ terms.items }
     {
-        Poly { terms }
+        let degrees = degrees(&terms);
+        Poly { terms, degrees }
     }
 
     /// The polynomial of terms in canonical form over a field.
     pub fn over(f: Field, terms: Vec<(Mono, u32)>) -> Poly
-        requires canonical { IsPolynomial f VARS terms.items }
-        requires small { HasSmallExponents terms.items }
+        requires { IsPolynomial f VARS terms.items }
         ensures { result ≡ terms.items }
     {
         f.facts();
-        Poly { terms }
+        Poly::of(terms)
+    }
+
+    /// The same, where the degrees are known.
+    pub(crate) fn with_degrees(f: Field, terms: Vec<(Mono, u32)>, degrees: Mono) -> Poly
+        requires canonical { IsPolynomial f VARS terms.items }
+        requires degrees { (v : ℕ) → exponent_of v degrees ≡ degree_in v terms.items }
+        ensures { result ≡ terms.items }
+    {
+        f.facts();
+        Poly { terms, degrees }
     }
 
     /// The allocator of the terms.
@@ -63,6 +76,7 @@ impl Poly {
     {
         Poly {
             terms: Vec::new(alloc),
+            degrees: Mono::one(),
         }
     }
 
@@ -76,7 +90,10 @@ impl Poly {
         if c != 0 {
             terms.push((Mono::one(), c))?;
         }
-        Ok(Poly { terms })
+        Ok(Poly {
+            terms,
+            degrees: Mono::one(),
+        })
     }
 
     /// The sum of terms in any order; monomials may repeat, coefficients may be 0.
@@ -94,7 +111,15 @@ impl Poly {
         ensures canonical { IsPolynomial (2 ^ 32) VARS self.now }
         ensures exponents { (v : ℕ) → degree_in v self.now ≤ most_exponent }
     {
+        self.degrees.shape();
         &self.terms
+    }
+
+    /// The degree in each variable.
+    pub fn degrees(&self) -> Mono
+        ensures { (v : ℕ) → exponent_of v result ≡ degree_in v self.now }
+    {
+        self.degrees
     }
 
     /// Does nothing: its clauses tell what every polynomial is.
@@ -125,6 +150,7 @@ impl Poly {
     {
         Ok(Poly {
             terms: self.terms.clone()?,
+            degrees: self.degrees,
         })
     }
 }

@@ -4,6 +4,7 @@ ghost use Rattle.sparse_poly.specs.Pairs.{FitsEach, PairsFit};
 
 use crate::boxes::{product_in_box, sides_of_product};
 use crate::merge::{Sign, merged};
+use crate::poly::Poly;
 use field_table::Field;
 use mono_words::{Mono, VARS};
 use std::alloc::{AllocError, Global};
@@ -62,8 +63,8 @@ pub fn scaled(
 pub fn product(
     alloc: Global,
     f: Field,
-    short: &[(Mono, u32)],
-    long: &[(Mono, u32)],
+    short: &Poly,
+    long: &Poly,
 ) -> Result<Vec<(Mono, u32)>, AllocError>
     requires left { IsPolynomial f VARS short.now }
     requires right { IsPolynomial f VARS long.now }
@@ -72,15 +73,17 @@ pub fn product(
     ensures value { IfOk result (λ r. r.items ≡ product_of f short.now long.now) }
     ensures over { IfOk result (λ r. IsPolynomial f VARS r.items) }
 {
-    if short.len() >= FEWEST_TERMS && long.len() >= FEWEST_TERMS {
-        let most = 2 * short.len() * long.len();
+    let (few, many) = (short.term_count(), long.term_count());
+    if few >= FEWEST_TERMS && many >= FEWEST_TERMS {
+        let most = 2 * few * many;
         if most <= MOST_PLACES {
-            if let Some((sides, size)) = sides_of_product(alloc, short, long, most)? {
-                return product_in_box(alloc, f, &sides, size, short, long);
+            let (a, b) = (short.degrees(), long.degrees());
+            if let Some((sides, size)) = sides_of_product(alloc, a, b, most)? {
+                return product_in_box(alloc, f, &sides, size, short.terms(), long.terms());
             }
         }
     }
-    merged_product(alloc, f, short, long)
+    merged_product(alloc, f, short.terms(), long.terms())
 }
 
 /// The product, by a balanced tree of merges of the terms of `short` times `long`.

@@ -1,12 +1,10 @@
 ghost use Rattle.std.specs.Prelude.{◌≡◌, ◌<◌, ◌≤◌, ◌↔◌, ℕ, true, [], length, drop, IfOk, IsTrue};
-ghost use Rattle.polynomials.specs.Monomials.{exponent_of};
 ghost use Rattle.polynomials.specs.Polynomials.{IsPolynomial};
 ghost use Rattle.polynomials.specs.Views.{degree_in, coefficient_in, lead_in, tail_in, main_var, is_constant, IsFreeOf};
 ghost use Rattle.sparse_poly.specs.Values.{SplitsValue};
 
-use crate::fits::degrees;
 use crate::poly::Poly;
-use mono_words::{Mono, VARS};
+use mono_words::VARS;
 use std::alloc::AllocError;
 
 impl Poly {
@@ -32,18 +30,7 @@ impl Poly {
         requires { v < VARS }
         ensures { result ≡ degree_in v self.now }
     {
-        match self.terms().first() {
-            // Where no greater variable occurs, the exponents of `v` fall.
-            Some(first) if self.is_free_above(v) => first.0.exponent(v),
-            _ => greatest_exponent(self.terms(), v),
-        }
-    }
-
-    /// The degree in each variable.
-    pub fn degrees(&self) -> Mono
-        ensures { (v : ℕ) → exponent_of v result ≡ degree_in v self.now }
-    {
-        degrees(self.terms())
+        self.degrees().exponent(v)
     }
 
     /// The coefficient of the greatest power of `v`, and 0 for the polynomial 0.
@@ -107,16 +94,4 @@ impl Poly {
             None => terms.len(),
         }
     }
-}
-
-/// The greatest exponent of `v`, and 0 where there is no term.
-fn greatest_exponent(terms: &[(Mono, u32)], v: usize) -> u16
-    requires { v < VARS }
-    ensures { result ≡ degree_in v terms.now }
-{
-    let mut greatest = 0;
-    for t in terms {
-        greatest = greatest.max(t.0.exponent(v));
-    }
-    greatest
 }

@@ -4,13 +4,11 @@ use Rattle.std.proofs.lemmas.List.Sorted.{answers_always}
 use Rattle.mono_words.specs.declared.mono.TheConstants.{VARS}
 use Rattle.polynomials.specs.Polynomials.{IsPolynomial, collected}
 use Rattle.polynomials.proofs.Canonical.{IsPolynomial-collected}
-use Rattle.polynomials.proofs.Monomialwise.{EachMonomial, EachMonomial-append, EachMonomial-collected}
-use Rattle.sparse_poly.specs.Exponents.{HasSmallExponents}
+use Rattle.polynomials.proofs.Monomialwise.{EachMonomial-append}
 use Rattle.sparse_poly.specs.Falling.{AreResidues, HaveVariables, IsFalling}
 use Rattle.sparse_poly.proofs.Moduli.{positive_modulus}
 use Rattle.sparse_poly.proofs.Passes.{pass_end}
 use Rattle.sparse_poly.proofs.Places.{drop_item}
-use Rattle.sparse_poly.proofs.SmallExponents.{IsSmallMonomial, small_from_each}
 use Rattle.sparse_poly.proofs.SortedTerms.{comes_before, comes_before_order, falling_from_sorted, collected-permutation, AreResidues-permutation, EachMonomial-permutation, IfOk-implied}
 use Rattle.sparse_poly.proofs.collect.collected.Goals as goal
 use Rattle.sparse_poly.proofs.collect.collected.Goals.{After-deref}
@@ -22,7 +20,6 @@ loop-t-preserved c = rw c.in_ok-push.ensures.items (record {
       ∙ (ap (λ l. c.loop-t.sorted.items ++ l) (sym (drop_item c.args.terms.now c.loop-t.t-index c.t-item.result c.loop-t-test.true c.t-item.is))
       ∙ c.loop-t.invariant.items);
   variables = EachMonomial-append (λ m. length m ≡ VARS) c.loop-t.sorted.items (c.t-item.result ∷ []) c.loop-t.invariant.variables (c.shape.ensures.variables, tt);
-  small = EachMonomial-append IsSmallMonomial c.loop-t.sorted.items (c.t-item.result ∷ []) c.loop-t.invariant.small (c.shape.ensures.exponents, tt);
 })
 
 -- all terms were taken
@@ -34,12 +31,6 @@ variables : (c : After-deref) → HaveVariables VARS c.deref.result.now
 variables c =
     subst (HaveVariables VARS) (sym c.deref.ensures.value)
     (EachMonomial-permutation (λ m. length m ≡ VARS) c.loop-t.sorted.items c.sort_unstable_by.new.self.items c.sort_unstable_by.ensures.permutation c.loop-t.invariant.variables)
-
--- and as small ones
-small : (c : After-deref) → EachMonomial IsSmallMonomial c.deref.result.now
-small c =
-    subst (EachMonomial IsSmallMonomial) (sym c.deref.ensures.value)
-    (EachMonomial-permutation IsSmallMonomial c.loop-t.sorted.items c.sort_unstable_by.new.self.items c.sort_unstable_by.ensures.permutation c.loop-t.invariant.small)
 
 pub joined-requires-clause-small : goal.joined-requires-clause-small
 joined-requires-clause-small c =
@@ -69,10 +60,4 @@ pub returns-clause-over : goal.returns-clause-over
 returns-clause-over c =
     IfOk-implied _ _ c.joined.result
     (λ r e. subst (IsPolynomial c.args.f VARS) (sym e) (IsPolynomial-collected c.args.f VARS (positive_modulus c.facts.ensures.least) c.deref.result.now (variables c.before.before)))
-    c.joined.ensures
-
-pub returns-clause-small : goal.returns-clause-small
-returns-clause-small c =
-    IfOk-implied _ _ c.joined.result
-    (λ r e. subst HasSmallExponents (sym e) (small_from_each (collected c.args.f c.deref.result.now) (EachMonomial-collected IsSmallMonomial c.args.f c.deref.result.now (small c.before.before))))
     c.joined.ensures

@@ -5,8 +5,6 @@ use Rattle.polynomials.specs.Polynomials.{IsPolynomial}
 use Rattle.polynomials.specs.Views.{degree_in, lead_in}
 use Rattle.polynomials.proofs.Coefficients.{IsPolynomial-coefficient_in}
 use Rattle.sparse_poly.proofs.Leads.{lead_found}
-use Rattle.sparse_poly.specs.Exponents.{HasSmallExponents}
-use Rattle.sparse_poly.proofs.SmallExponents.{small_coefficient}
 use Rattle.sparse_poly.proofs.poly.Poly.lead_in.Goals as goal
 use Rattle.sparse_poly.proofs.poly.Poly.lead_in.Goals.{After-loop-t}
 
@@ -14,8 +12,8 @@ use Rattle.sparse_poly.proofs.poly.Poly.lead_in.Goals.{After-loop-t}
 found : (c : After-loop-t) → c.loop-t.terms.items ≡ lead_in c.args.v c.args.self.now
 found c = lead_found c.args.v c.degree_in-degree.result c.lead_end-end.result c.loop-t.t-index c.args.self.now c.terms.result.now c.loop-t.terms.items c.terms.ensures.terms c.degree_in-degree.ensures c.lead_end-end.ensures.rest c.loop-t-test.false c.loop-t.invariant
 
-pub of-requires-clause-canonical : goal.of-requires-clause-canonical
-of-requires-clause-canonical c =
+pub of-requires : goal.of-requires
+of-requires c =
     subst (IsPolynomial (2 ^ 32) VARS)
     (sym (found c))
     (IsPolynomial-coefficient_in c.args.v (degree_in c.args.v c.args.self.now) (2 ^ 32) VARS c.args.self.now c.terms.ensures.canonical)
@@ -24,9 +22,3 @@ pub returns : goal.returns
 returns c = record {
   lead = c.of.ensures ∙ lead_found c.args.v c.degree_in-degree.result c.lead_end-end.result c.loop-t.t-index c.args.self.now c.terms.result.now c.loop-t.terms.items c.terms.ensures.terms c.degree_in-degree.ensures c.lead_end-end.ensures.rest c.loop-t-test.false c.loop-t.invariant;
 }
-
-pub of-requires-clause-small : goal.of-requires-clause-small
-of-requires-clause-small c =
-    subst HasSmallExponents
-    (sym (found c))
-    (small_coefficient c.args.v (degree_in c.args.v c.args.self.now) c.args.self.now c.terms.ensures.exponents)

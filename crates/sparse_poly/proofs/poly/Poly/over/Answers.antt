@@ -4,8 +4,5 @@ use Rattle.mono_words.specs.declared.mono.TheConstants.{VARS}
 use Rattle.sparse_poly.proofs.Passes.{IsPolynomial-wider}
 use Rattle.sparse_poly.proofs.poly.Poly.over.Goals as goal
 
-pub invariant_of-result : goal.invariant_of-result
-invariant_of-result c = (
-  IsPolynomial-wider c.args.f (2 ^ 32) VARS c.args.terms.items (let most = c.facts.ensures.most in omega arith) c.requires.canonical,
-  c.requires.small,
-)
+pub of-requires : goal.of-requires
+of-requires c = IsPolynomial-wider c.args.f (2 ^ 32) VARS c.args.terms.items (let most = c.facts.ensures.most in omega arith) c.requires

@@ -3,7 +3,7 @@ use Rattle.std.proofs.Common.{[], ◌∷◌, sym, subst, arith}
 use Rattle.polynomials.specs.Polynomials.{term, IsPolynomial}
 use Rattle.polynomials.proofs.LeadAndTail.{IsPolynomial-variable_power}
 use Rattle.mono_words.specs.declared.mono.TheConstants.{VARS}
-use Rattle.sparse_poly.proofs.PowerMonomials.{FitsEach-power, small_power_product}
+use Rattle.sparse_poly.proofs.PowerMonomials.{FitsEach-power}
 use Rattle.sparse_poly.proofs.poly.Poly.times_power.Goals as goal
 
 pub term_times-requires-clause-term : goal.term_times-requires-clause-term
@@ -15,8 +15,3 @@ pub term_times-requires-clause-fit : goal.term_times-requires-clause-fit
 term_times-requires-clause-fit c =
     rw (c.power.ensures, c.terms.ensures.terms)
     (FitsEach-power VARS c.args.v c.args.e c.args.self.now c.requires.variable c.terms.ensures.exponents c.requires.room)
-
-pub over-requires-clause-small : goal.over-requires-clause-small
-over-requires-clause-small c =
-    rw (c.in_ok-terms.ensures.value, c.power.ensures, c.terms.ensures.terms)
-    (small_power_product c.args.f VARS c.args.v c.args.e c.args.self.now c.requires.variable c.terms.ensures.exponents c.requires.room)
