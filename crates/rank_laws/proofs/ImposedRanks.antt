@@ -44,7 +44,7 @@ use Rattle.rank_laws.specs.Laws.{ImposedChildrenHaveLessRank}
 use Rattle.rank_laws.proofs.ImposedHeads.{reduced_each, last_low, leads_imposed}
 use Rattle.rank_laws.proofs.Leads.{lead_free_from, lead_new}
 use Rattle.rank_laws.proofs.Orders.{less_behind, changed_less, main_low}
-use Rattle.rank_laws.proofs.Phases.{IsNewHead, monic_zero, head_phase, rest_less, low_less, monic_new}
+use Rattle.rank_laws.proofs.Phases.{IsNewHead, zero_left, head_phase, rest_less, low_less, monic_new}
 
 -- canonical polynomials that don't vanish, and one more
 with_canonical : (p n : ℕ) (ns : List Polynomial) (h : Polynomial) → IsPrime p → ArePolynomials p n ns → IsPolynomial p n h → ArePolynomials p n (with_nonzero p ns h)
@@ -73,11 +73,7 @@ module _ (p n k w : ℕ) (prime : IsPrime p) (chain rest ns : List Polynomial) (
 
   -- where the head is 0 so is the reduction
   zero_reduction : (g : Polynomial) → reduced_head p n w chain rest ns f ≡ Some g → g ≡ [] → reduction_of p n chain f ≡ []
-  zero_reduction g made null = go (reduction_of p n chain f) canonical_f (sym (is_head g made) ∙ null)
-    where
-      go : (x : Polynomial) → IsPolynomial p n x → stripped p w ns x ≡ [] → x ≡ []
-      go [] i e = refl
-      go (t ∷ x) i e = absurd (without_factors_nonzero p n w prime ns (t ∷ x) are_ns i (λ d. cc) (monic_zero p (without_factors p w ns (t ∷ x)) e))
+  zero_reduction g made null = zero_left p n w prime ns are_ns (reduction_of p n chain f) canonical_f (sym (is_head g made) ∙ null)
 
   module _ (v : ℕ) (g : Polynomial) (made : reduced_head p n w chain rest ns f ≡ Some g) (head : IsHead p n chain g) (main : main_var g ≡ Some v) where
     -- and only there

@@ -6,6 +6,8 @@ use Rattle.polynomials.specs.Views.{IsFreeOf}
 use Rattle.polynomials.proofs.MonicLemmas.{IsPolynomial-monic}
 use Rattle.zero_sets.specs.ZeroSets.{IsTriangular}
 use Rattle.division_rules.specs.Rows.{plain, plains}
+use Rattle.division_rules.specs.Quotients.{without_factors}
+use Rattle.division_rules.proofs.Factors.{without_factors_nonzero}
 use Rattle.division_rules.proofs.Steps.{choose}
 use Rattle.division_rules.proofs.Up.{plains_canonical}
 use Rattle.row_laws.specs.Words.{reduction_of, IsReducedBy}
@@ -28,6 +30,11 @@ pub record IsNewHead (p n : ℕ) (chain : List Polynomial) (x : Polynomial) : Ty
 pub monic_zero : (p : ℕ) (f : Polynomial) → monic p f ≡ [] → f ≡ []
 monic_zero p [] null = refl
 monic_zero p (t ∷ f) null = cc
+
+-- what is left of it without factors is 0 only where it is
+pub zero_left : (p n w : ℕ) → IsPrime p → (ns : List Polynomial) → ArePolynomials p n ns → (f : Polynomial) → IsPolynomial p n f → stripped p w ns f ≡ [] → f ≡ []
+zero_left p n w prime ns are [] i null = refl
+zero_left p n w prime ns are (t ∷ f) i null = absurd (without_factors_nonzero p n w prime ns (t ∷ f) are i (λ d. cc) (monic_zero p (without_factors p w ns (t ∷ f)) null))
 
 -- the test of 0
 zero_test : (f : Polynomial) → f ≡ [] → is_zero f ≡ true

@@ -27,3 +27,25 @@ few_steps = refl
 
 narrow : (answer_to 2 2 3 lines).stop ≡ Some ([], why.Size)
 narrow = refl
+
+-- c x^a
+abbrev x : ℕ → ℕ → Term
+x c a = term (a ∷ []) c
+
+-- modulo 7, x^2 + x + 1 and x + 3
+abbrev powers : PolynomialSystem
+powers = record {
+  prime = 7;
+  inputs = (x 1 2 ∷ x 1 1 ∷ x 1 0 ∷ []) ∷ (x 1 1 ∷ x 3 0 ∷ []) ∷ [];
+  nonzero = [];
+}
+
+-- the same limits
+enough_in_one : (answer_to 1 3 3 powers).stop ≡ None
+enough_in_one = refl
+
+few_steps_in_one : (answer_to 1 3 2 powers).stop ≡ Some ([], why.Steps)
+few_steps_in_one = refl
+
+narrow_in_one : (answer_to 1 2 3 powers).stop ≡ Some ([], why.Size)
+narrow_in_one = refl

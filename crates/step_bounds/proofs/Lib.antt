@@ -10,4 +10,14 @@ pub mod LinearFactors
 pub mod AbsentMembers
 pub mod LinearChildren
 pub mod LinearSteps
+pub mod Univariate
+pub mod Units
+pub mod UnivariateRows
+pub mod Divisors
+pub mod OneVariable
+pub mod ConstantLeads
+pub mod OneVariableTasks
+pub mod OneVariableRows
+pub mod OneVariableChildren
+pub mod OneVariableSteps
 mod Examples

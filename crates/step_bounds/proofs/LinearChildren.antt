@@ -1,5 +1,5 @@
 -- The one child that a linear polynomial gives.
-use Rattle.std.proofs.Common.{◌≡◌, ◌≢◌, inl, inr, ℕ, ◌<◌, true, false, ◌||◌, List, [], ◌∷◌, ◌++◌, append_assoc, Option, Some, None, refl, sym, ap, ◌∙◌, subst, arith}
+use Rattle.std.proofs.Common.{◌≡◌, ◌≢◌, inl, inr, ℕ, ◌<◌, true, false, List, [], ◌∷◌, ◌++◌, append_assoc, Option, Some, None, refl, sym, ap, ◌∙◌, subst, arith}
 use Rattle.std.specs.List.{AllByRecursion}
 use Rattle.polynomials.specs.Primes.{IsPrime}
 use Rattle.polynomials.specs.Polynomials.{Polynomial, IsPolynomial, ArePolynomials, sum_of, product_of, constant_of, monic, is_zero}
@@ -13,24 +13,25 @@ use Rattle.polynomials.proofs.Monomialwise.{EachMonomial}
 use Rattle.polynomials.proofs.PolynomialRing.{polynomials_make_a_ring}
 use Rattle.polynomials.specs.Primes.{inverse_of}
 use Rattle.zero_sets.specs.ZeroSets.{IsTriangular, member_in, members_below}
-use Rattle.zero_sets.specs.Tasks.{Task, is_member, is_known_nonzero, with_nonzero}
+use Rattle.zero_sets.specs.Tasks.{Task, is_known_nonzero, with_nonzero}
 use Rattle.division_rules.specs.Lists.{list_operations}
-use Rattle.division_rules.specs.Quotients.{without_factors, without_factor, factor_bound}
+use Rattle.division_rules.specs.Quotients.{without_factors}
 use Rattle.division_rules.specs.Rows.{plain, plains}
 use Rattle.division_rules.specs.Within.{and_then, reduction_within}
-use Rattle.division_rules.proofs.Factors.{without_factors_nonzero, IsPolynomial-without_factors}
+use Rattle.division_rules.proofs.Factors.{IsPolynomial-without_factors}
 use Rattle.division_rules.proofs.ListLaws.{zero_by_test}
 use Rattle.division_rules.proofs.Steps.{choose}
 use Rattle.impose_rules.specs.Chains.{members_above, with_member}
 use Rattle.impose_rules.specs.Factors.{stripped}
 use Rattle.impose_rules.specs.Impose.{child_without, child_extended, child_initial, children_at, children_by_head, impose_children, step_to_fitting}
 use Rattle.impose_rules.proofs.ChainParts.{canonical_each, member_of_chain, with_member_triangular, each_with_member}
-use Rattle.impose_rules.proofs.Lists.{each_implied}
+use Rattle.impose_rules.proofs.Lists.{each_appended, each_implied}
 use Rattle.impose_laws.proofs.MonicForms.{constant_times_monic, degree_in-monic}
 use Rattle.impose_laws.proofs.Stripped.{main_var-stripped, degree_in-stripped}
-use Rattle.rank_laws.proofs.Phases.{monic_zero}
+use Rattle.rank_laws.proofs.Phases.{zero_left}
 use Rattle.step_bounds.proofs.StraightTrees.{IsStraight}
 use Rattle.step_bounds.proofs.AbsentMembers.{absent_split}
+use Rattle.step_bounds.proofs.ConstantLeads.{constant_known, with_constant, without_constants}
 use Rattle.step_bounds.proofs.Linear.{IsLinearMonomial, IsLinear, scaled_monomials, linear_lead, constant_passes}
 use Rattle.step_bounds.proofs.LinearFactors.{linear_left}
 use Rattle.step_bounds.proofs.LinearReductions.{IsReached, IsDone, are_linear, reduction_reached, reached_lacks}
@@ -65,10 +66,6 @@ module _ (p n k w : ℕ) (prime : IsPrime p) (wide : k < w) where
     abbrev IsChild : Task → Type 0
     IsChild kid = IsLinearTask inputs kid × (kid.queue ≡ rest)
 
-    also_done : (Q : Polynomial → Type 0) (fs : List Polynomial) → AllByRecursion Q fs → Q f → AllByRecursion Q (fs ++ f ∷ [])
-    also_done Q [] each here = (here, tt)
-    also_done Q (g ∷ fs) each here = (each.0, also_done Q fs each.1 here)
-
     module _ (g : Polynomial) (made : reduction_within (list_operations p n) w (plains chain) (plain f) ≡ Some (plain g)) (at : IsReached p n k w prime wide chain linear triangular f g) where
       abbrev r : Polynomial
       r = stripped p w ns g
@@ -89,17 +86,13 @@ module _ (p n k w : ℕ) (prime : IsPrime p) (wide : k < w) where
           nonzero = of_ns;
           done = done ++ f ∷ [];
           parts = parts ∙ sym (append_assoc done (f ∷ []) rest);
-          each_done = also_done (λ x. IsLinear p n k x × IsDone p n k w prime wide chain linear triangular x) done each_done (of_f, record { b = at.reaches.a; scalar = at.reaches.scalar; nonzero = at.reaches.nonzero; spanned = subst (IsSpanned p n chain) (sym (at.reaches.same ∙ ap (λ x. sum_of p x at.reaches.d) (zero g at.linear_x.canonical null) ∙ (polynomials_make_a_ring p n prime.many).zero-add at.reaches.d (spanned_is at.reaches.d at.reaches.spanned))) at.reaches.spanned });
+          each_done = each_appended (λ x. IsLinear p n k x × IsDone p n k w prime wide chain linear triangular x) done (f ∷ []) each_done ((of_f, record { b = at.reaches.a; scalar = at.reaches.scalar; nonzero = at.reaches.nonzero; spanned = subst (IsSpanned p n chain) (sym (at.reaches.same ∙ ap (λ x. sum_of p x at.reaches.d) (zero_left p n w prime ns are_ns g at.linear_x.canonical null) ∙ (polynomials_make_a_ring p n prime.many).zero-add at.reaches.d (spanned_is at.reaches.d at.reaches.spanned))) at.reaches.spanned }), tt);
         },
         refl,
       )
         where
           spanned_is : (d : Polynomial) → IsSpanned p n chain d → IsPolynomial p n d
           spanned_is d is = spanned_canonical p n prime chain are d is
-
-          zero : (x : Polynomial) → IsPolynomial p n x → stripped p w ns x ≡ [] → x ≡ []
-          zero [] i e = refl
-          zero (t ∷ x) i e = absurd (without_factors_nonzero p n w prime ns (t ∷ x) are_ns i (λ d. cc) (monic_zero p (without_factors p w ns (t ∷ x)) e))
 
       module _ (v : ℕ) (main : main_var r ≡ Some v) where
         g_some : g ≢ []
@@ -127,7 +120,7 @@ module _ (p n k w : ℕ) (prime : IsPrime p) (wide : k < w) where
         lead_constant = let l = linear_lead p n k w prime v r r_linear (degree_in_main_var v r main) in ap is_constant l.3 ∙ constant_passes n l.0
 
         known : is_known_nonzero p ns (lead_in v r) ≡ true
-        known = ap (λ b. b || is_member (monic p (lead_in v r)) ns) lead_constant
+        known = constant_known p ns (lead_in v r) lead_constant
 
         none_initial : child_initial p n w chain rest ns v r ≡ []
         none_initial = ap (λ b. elim b as (λ _. List Task) [ true ↦ [] | false ↦ record { chain = chain; queue = lead_in v r ∷ tail_in v r ∷ rest; nonzero = ns } ∷ [] ]) known
@@ -136,7 +129,7 @@ module _ (p n k w : ℕ) (prime : IsPrime p) (wide : k < w) where
         t = stripped p w (lead_in v r ∷ []) r
 
         t_is : t ≡ monic p g
-        t_is = ap (λ b. monic p (elim b as (λ _. Polynomial) [ true ↦ without_factors p w [] r | false ↦ without_factors p w [] (without_factor p w (lead_in v r) (factor_bound r) r) ])) lead_constant ∙ ap (monic p) r_is ∙ monic-monic p n prime g at.linear_x.canonical
+        t_is = ap (monic p) (without_constants p w (lead_in v r ∷ []) r (lead_constant, tt) ∙ r_is) ∙ monic-monic p n prime g at.linear_x.canonical
 
         main_t : main_var t ≡ Some v
         main_t = main_var-stripped p n w prime (lead_in v r ∷ []) (IsPolynomial-coefficient_in v (degree_in v r) p n r r_linear.canonical, tt) v (coefficient_in_free v (degree_in v r) r, tt) r r_linear.canonical main
@@ -151,7 +144,7 @@ module _ (p n k w : ℕ) (prime : IsPrime p) (wide : k < w) where
             absurd (omega (arith, none, some, same))
 
         with_is : with_nonzero p ns (lead_in v r) ≡ ns
-        with_is = ap (λ b. elim b as (λ _. List Polynomial) [ true ↦ ns | false ↦ ns ++ monic p (lead_in v r) ∷ [] ]) known
+        with_is = with_constant p ns (lead_in v r) lead_constant
 
         linear_changed : AreLinear p n k (with_member v t chain)
         linear_changed = each_with_member (IsLinear p n k) v t chain (subst (IsLinear p n k) (sym t_is) (linear_monic g at.linear_x)) linear
@@ -185,7 +178,7 @@ module _ (p n k w : ℕ) (prime : IsPrime p) (wide : k < w) where
             nonzero = subst (AreLinear p n k) (sym with_is) of_ns;
             done = done ++ f ∷ [];
             parts = parts ∙ sym (append_assoc done (f ∷ []) rest);
-            each_done = also_done IsDoneThen done (each_implied (λ x. IsLinear p n k x × IsDone p n k w prime wide chain linear triangular x) IsDoneThen (λ x h. (h.0, record { b = h.1.b; scalar = h.1.scalar; nonzero = h.1.nonzero; spanned = grown none (product_of p h.1.b x) h.1.spanned })) done each_done) (f_done none);
+            each_done = each_appended IsDoneThen done (f ∷ []) (each_implied (λ x. IsLinear p n k x × IsDone p n k w prime wide chain linear triangular x) IsDoneThen (λ x h. (h.0, record { b = h.1.b; scalar = h.1.scalar; nonzero = h.1.nonzero; spanned = grown none (product_of p h.1.b x) h.1.spanned })) done each_done) (f_done none, tt);
           },
           refl,
         )

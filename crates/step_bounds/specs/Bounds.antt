@@ -2,6 +2,7 @@
 use Rattle.std.specs.Prelude.{◌≡◌, ℕ, ◌<◌, ◌≤◌, length, None}
 use Rattle.std.specs.List.{AllByRecursion}
 use Rattle.polynomials.specs.Polynomials.{Polynomial}
+use Rattle.polynomials.specs.Views.{degree_in}
 use Rattle.zero_sets.specs.Systems.{PolynomialSystem}
 use Rattle.case_laws.specs.Lawful.{IsLawfulSystem}
 use Rattle.case_laws.specs.Laws.{answer_to}
@@ -25,4 +26,15 @@ LinearSystemsAreNeverStopped =
     → EachPolynomial (λ f. total_degree f ≤ 1) system
     → length system.inputs < steps
     → k < w
+    → IsNeverStopped n w steps system
+
+-- a system in one variable with degrees of at most d isn't stopped with a step more than it has
+-- inputs and a width of more than d
+abbrev pub SystemsInOneVariableAreNeverStopped : Type 0
+SystemsInOneVariableAreNeverStopped =
+    (n d w steps : ℕ) (system : PolynomialSystem)
+    → IsLawfulSystem n 1 system
+    → EachPolynomial (λ f. degree_in 0 f ≤ d) system
+    → length system.inputs < steps
+    → d < w
     → IsNeverStopped n w steps system
