@@ -17,16 +17,16 @@ use std::alloc::{AllocError, Global};
 
 /// The sparse pseudo-remainders of `f` by the rows of `by` in their main variables, the last row
 /// first; `None` where a product on the way doesn't fit the width.
-pub fn reduce_rows(alloc: Global, w: Work, f: &Row, by: &Rows) -> Result<Option<Row>, AllocError>
-    requires row { IsPolynomialRow w.field VARS f.now }
+pub fn reduce_rows(alloc: Global, w: Work, f: Row, by: &Rows) -> Result<Option<Row>, AllocError>
+    requires row { IsPolynomialRow w.field VARS f }
     requires chain { ArePolynomialRows w.field VARS by.now }
     requires triangular { AreTriangular by.now }
-    requires cofactors { EachRow (λ t. length t.cofactors ≡ length f.now.cofactors) by.now }
-    ensures value { IfOk result (λ r. r ≡ reduction_within (operations w.field) w.width by.now f.now) }
+    requires cofactors { EachRow (λ t. length t.cofactors ≡ length f.cofactors) by.now }
+    ensures value { IfOk result (λ r. r ≡ reduction_within (operations w.field) w.width by.now f) }
     ensures over { IfOk result (λ r. IfSome r (IsPolynomialRow w.field VARS)) }
-    ensures cofactors { IfOk result (λ r. IfSome r (λ h. length h.cofactors ≡ length f.now.cofactors)) }
+    ensures cofactors { IfOk result (λ r. IfSome r (λ h. length h.cofactors ≡ length f.cofactors)) }
     ensures combination { IfOk result (λ r. IfSome r (
-        IsCombinationWhere w.field (f.now ∷ by.now))) }
+        IsCombinationWhere w.field (f ∷ by.now))) }
     ensures reduced { IfOk result (λ r. IfSome r (λ h. EachRow (HasLessDegree h.first) by.now)) }
 {
     w.field.facts();
@@ -34,16 +34,16 @@ pub fn reduce_rows(alloc: Global, w: Work, f: &Row, by: &Rows) -> Result<Option<
 }
 
 /// The sparse pseudo-remainders by the rows in turn.
-fn reduced(alloc: Global, w: Work, f: &Row, by: &Rows) -> Result<Option<Row>, AllocError>
-    requires row { IsPolynomialRow w.field VARS f.now }
+fn reduced(alloc: Global, w: Work, f: Row, by: &Rows) -> Result<Option<Row>, AllocError>
+    requires row { IsPolynomialRow w.field VARS f }
     requires chain { ArePolynomialRows w.field VARS by.now }
     requires triangular { AreTriangular by.now }
-    requires cofactors { EachRow (λ t. length t.cofactors ≡ length f.now.cofactors) by.now }
-    ensures value { IfOk result (λ r. r ≡ reduction_within (operations w.field) w.width by.now f.now) }
+    requires cofactors { EachRow (λ t. length t.cofactors ≡ length f.cofactors) by.now }
+    ensures value { IfOk result (λ r. r ≡ reduction_within (operations w.field) w.width by.now f) }
     ensures over { IfOk result (λ r. IfSome r (IsPolynomialRow w.field VARS)) }
-    ensures cofactors { IfOk result (λ r. IfSome r (λ h. length h.cofactors ≡ length f.now.cofactors)) }
+    ensures cofactors { IfOk result (λ r. IfSome r (λ h. length h.cofactors ≡ length f.cofactors)) }
 {
-    let mut row = f.copy(alloc)?;
+    let mut row = f;
     let mut i = by.count();
     while i > 0 {
         i -= 1;

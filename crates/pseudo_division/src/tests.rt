@@ -198,7 +198,7 @@ fn reduces_row(
     let mut by = Rows::new(alloc);
     by.push(t)?;
     by.push(s)?;
-    let found = reduce_rows(alloc, Work { field, width }, &f, &by)?;
+    let found = reduce_rows(alloc, Work { field, width }, f, &by)?;
     is_row(alloc, field, found, due)
 }
 

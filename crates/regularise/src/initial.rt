@@ -82,5 +82,5 @@ fn initial_row(
 {
     let row = generator_row(alloc, w, initial, true, 0, below.count())?;
     let rows = generator_rows(alloc, w, below, true, 1)?;
-    reduce_rows(alloc, *w, &row, &rows)
+    reduce_rows(alloc, *w, row, &rows)
 }

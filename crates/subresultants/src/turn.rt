@@ -4,7 +4,6 @@ ghost use Rattle.division_rules.specs.Chains.{EachRow};
 ghost use Rattle.division_rules.specs.PolynomialRows.{IsPolynomialRow, ArePolynomialRows};
 ghost use Rattle.division_rules.specs.RemainderRowsWithin.{undivided_within};
 ghost use Rattle.division_rules.specs.Triangular.{AreTriangular};
-ghost use Rattle.division_rules.specs.Within.{reduction_within};
 ghost use Rattle.pseudo_division.specs.FieldOperations.{operations};
 ghost use Rattle.subresultants.specs.Turns.{IsTurnBeforeOver, divided_turn, turn_within};
 
@@ -78,24 +77,8 @@ fn undivided(
 {
     match prem_full(alloc, *w, f, g, v)? {
         None => Ok(None),
-        Some(row) => reduced(alloc, w, row, chain),
+        Some(row) => reduce_rows(alloc, *w, row, chain),
     }
-}
-
-/// The reduction by the chain, without a copy where the chain is empty.
-fn reduced(alloc: Global, w: &Work, row: Row, chain: &Rows) -> Result<Option<Row>, AllocError>
-    requires row { IsPolynomialRow w.now.field VARS row }
-    requires chain { ArePolynomialRows w.now.field VARS chain.now }
-    requires triangular { AreTriangular chain.now }
-    requires cofactors { EachRow (λ t. length t.cofactors ≡ length row.cofactors) chain.now }
-    ensures value { IfOk result (λ r.
-        r ≡ reduction_within (operations w.now.field) w.now.width chain.now row) }
-    ensures over { IfOk result (λ r. IfSome r (IsPolynomialRow w.now.field VARS)) }
-{
-    if chain.is_empty() {
-        return Ok(Some(row));
-    }
-    reduce_rows(alloc, *w, &row, chain)
 }
 
 /// The row itself where it is 0, and else the row divided by beta.
