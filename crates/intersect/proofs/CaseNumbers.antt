@@ -5,7 +5,7 @@ use Rattle.polynomials.specs.Polynomials.{Polynomial}
 use Rattle.zero_sets.specs.Tasks.{is_known_nonzero, with_nonzero}
 use Rattle.impose_rules.specs.Leads.{unknown_from, lead_cases}
 use Rattle.impose_rules.proofs.Lists.{each_appended}
-use Rattle.subresultants.specs.declared.outcome.RemainderRows.{RemainderRows}
+use Rattle.subresultants.specs.declared.outcome.RowEnds.{RowEnds}
 use Rattle.intersect.specs.declared.cases.Case.{Case}
 use Rattle.intersect.specs.declared.cases.Case.TheVariants.{Lead, Initial}
 use Rattle.intersect.specs.Cases.{IsCaseOf, AreCasesOf, initial_cases, member_cases, cases_of_rows}
@@ -38,10 +38,10 @@ module _ (p k : ℕ) where
       go true = tt
       go false = (tt, tt)
 
-  member_is_case : (w : ℕ) (rows : RemainderRows) (common : Bool) → AreCasesOf k (member_cases p w rows common)
+  member_is_case : (w : ℕ) (rows : RowEnds) (common : Bool) → AreCasesOf k (member_cases p w rows common)
   member_is_case w rows true = (tt, tt)
   member_is_case w rows false = tt
 
 -- in the cases by rows
-pub rows_have_cases : (p w : ℕ) (ns : List Polynomial) (rows : RemainderRows) (common : Bool) → AreCasesOf (length rows.leads) (cases_of_rows p w ns rows common)
+pub rows_have_cases : (p w : ℕ) (ns : List Polynomial) (rows : RowEnds) (common : Bool) → AreCasesOf (length rows.leads) (cases_of_rows p w ns rows common)
 rows_have_cases p w ns rows common = each_appended (IsCaseOf (length rows.leads)) (member_cases p w rows common ++ map Lead (lead_cases p ns rows.leads)) (initial_cases p ns rows.leads) (each_appended (IsCaseOf (length rows.leads)) (member_cases p w rows common) (map Lead (lead_cases p ns rows.leads)) (member_is_case p (length rows.leads) w rows common) (cases_of_numbers p (length rows.leads) (lead_cases p ns rows.leads) (lead_numbers p (length rows.leads) ns rows.leads refl))) (initial_is_case p (length rows.leads) ns rows.leads)

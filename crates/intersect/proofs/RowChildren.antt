@@ -23,8 +23,9 @@ use Rattle.impose_laws.proofs.RowShapes.{rows}
 use Rattle.impose_laws.proofs.CommonRows.{leads_canonical, leads_free, last_polynomial, last_canonical, last_main}
 use Rattle.impose_laws.proofs.Stripped.{main_var-stripped}
 use Rattle.pseudo_division.specs.FieldOperations.{operations}
+use Rattle.subresultants.specs.Ends.{end_of, ends_of}
 use Rattle.subresultants.specs.Outcomes.{with_leads, ended, outcome_after, remainders_of}
-use Rattle.subresultants.specs.declared.outcome.RemainderRows.{RemainderRows}
+use Rattle.subresultants.specs.declared.outcome.RowEnds.{RowEnds}
 use Rattle.subresultants.specs.declared.outcome.Remainders.{Remainders}
 use Rattle.row_laws.specs.Words.{IsReducedBy, StartRemainderRows}
 use Rattle.row_laws.proofs.Members.{members_start_remainder_rows}
@@ -48,8 +49,8 @@ module _ (p w v : ℕ) (r : Polynomial) (left : Task) where
   kids_of later last = child_common p VARS w left.chain left.queue left.nonzero v (leads_after later) (last_after later) last ++ map (child_lead p VARS w left.chain left.queue left.nonzero r (leads_after later)) (lead_cases p left.nonzero (leads_after later)) ++ child_initial p VARS w left.chain left.queue left.nonzero v r
 
   module _ (t : Polynomial) (later : List (Row Polynomial)) where
-    abbrev made : RemainderRows
-    made = with_leads p v (plain t ∷ plain r ∷ later)
+    abbrev made : RowEnds
+    made = end_of (with_leads p v (plain t ∷ plain r ∷ later))
 
     -- in cases, of which those of the last row are given
     by_cases : (common : Bool) (kids : List Task) → map (child_in p (head_of v r (leads_after later)) left) (member_cases p w made common) ≡ kids → here.children_after_rows p w v r left made common ≡ kids ++ map (child_lead p VARS w left.chain left.queue left.nonzero r (leads_after later)) (lead_cases p left.nonzero (leads_after later)) ++ child_initial p VARS w left.chain left.queue left.nonzero v r
@@ -59,7 +60,7 @@ module _ (p w v : ℕ) (r : Polynomial) (left : Task) where
         ∙ ap₂ ◌++◌ (map-append g (member_cases p w made common) (map Lead (lead_cases p left.nonzero (leads_after later))) ∙ ap₂ ◌++◌ first (lead_children p w v r left (leads_after later) (lead_cases p left.nonzero (leads_after later)))) (initial_child p w v r left (leads_after later) (leads (operations p) v later))
 
     -- by how the rows end
-    children_ended : (last : Option (Row Polynomial)) → ((z : Row Polynomial) → last ≡ Some z → main_var (stripped p w (leads_after later) (last_after later)) ≡ Some v) → children_by p w v r left (ended made last) ≡ Some (kids_of later last)
+    children_ended : (last : Option (Row Polynomial)) → ((z : Row Polynomial) → last ≡ Some z → main_var (stripped p w (leads_after later) (last_after later)) ≡ Some v) → children_by p w v r left (ends_of (ended (with_leads p v (plain t ∷ plain r ∷ later)) last)) ≡ Some (kids_of later last)
     children_ended None main = ap Some (by_cases false [] refl)
     children_ended (Some z) main = ap Some (by_cases true (child_common p VARS w left.chain left.queue left.nonzero v (leads_after later) (last_after later) (Some z)) (ap (λ kid. kid ∷ []) (member_child p w v r left (leads_after later) (stripped p w (leads_after later) (last_after later)) (main z refl))))
 
@@ -81,19 +82,19 @@ module _ (p w v : ℕ) (r : Polynomial) (left : Task) where
     common_main : (x : LaterRows Polynomial) → x ≡ rows p VARS prime w v below t r start → (z : Row Polynomial) → x.last ≡ Some z → main_var (stripped p w (leads_after x.later) (last_after x.later)) ≡ Some v
     common_main x e = subst (λ (y : LaterRows Polynomial). (z : Row Polynomial) → y.last ≡ Some z → main_var (stripped p w (leads_after y.later) (last_after y.later)) ≡ Some v) (sym e) (λ z last. main_var-stripped p VARS w prime (leads_after (rows p VARS prime w v below t r start).later) (leads_canonical p VARS prime w v below t r start) v (leads_free p VARS prime w v below t r start) (last_polynomial p VARS prime w v below t r start) (last_canonical p VARS prime w v below t r start) (last_main p VARS prime w v below t r start z last main_t main))
 
-    outcome : (o : Option (LaterRows Polynomial)) → IfSome o (λ y. y ≡ rows p VARS prime w v below t r start) → children_by p w v r left (outcome_after p v (plain t ∷ plain r ∷ []) o) ≡ and_then o (λ x. Some (children_by_rows p VARS w left.chain left.queue left.nonzero v r x))
+    outcome : (o : Option (LaterRows Polynomial)) → IfSome o (λ y. y ≡ rows p VARS prime w v below t r start) → children_by p w v r left (ends_of (outcome_after p v (plain t ∷ plain r ∷ []) o)) ≡ and_then o (λ x. Some (children_by_rows p VARS w left.chain left.queue left.nonzero v r x))
     outcome None e = refl
     outcome (Some x) e = children_ended t x.later x.last (common_main x e)
 
     -- the children at a member of the chain
-    member_children : children_by p w v r left (remainders_of p w v false t r below) ≡ children_at p VARS w left.chain left.queue left.nonzero v r (Some t)
+    member_children : children_by p w v r left (ends_of (remainders_of p w v false t r below)) ≡ children_at p VARS w left.chain left.queue left.nonzero v r (Some t)
     member_children = outcome (remainder_rows_within (operations p) w v (plains below) (plain t) (plain r)) (gives-remainder_rows (operations p) w v (plains below) (plain t) (plain r))
 
     -- also where those below it, the rows and the children were made
-    pub member_kids : (lower : List Polynomial) (remainders : Remainders) (kids : Option (List Task)) → lower ≡ below → remainders ≡ remainders_of p w v false t r lower → kids ≡ children_by p w v r left remainders → kids ≡ children_at p VARS w left.chain left.queue left.nonzero v r (member_in v left.chain)
+    pub member_kids : (lower : List Polynomial) (remainders : Remainders) (kids : Option (List Task)) → lower ≡ below → remainders ≡ ends_of (remainders_of p w v false t r lower) → kids ≡ children_by p w v r left remainders → kids ≡ children_at p VARS w left.chain left.queue left.nonzero v r (member_in v left.chain)
     member_kids lower remainders kids those is made =
         made
-        ∙ ap (children_by p w v r left) (is ∙ ap (remainders_of p w v false t r) those)
+        ∙ ap (children_by p w v r left) (is ∙ ap (λ xs. ends_of (remainders_of p w v false t r xs)) those)
         ∙ member_children
         ∙ ap (children_at p VARS w left.chain left.queue left.nonzero v r) (sym found)
 

@@ -5,8 +5,7 @@ use Rattle.polynomials.specs.Polynomials.{Polynomial}
 use Rattle.zero_sets.specs.Tasks.{is_known_nonzero}
 use Rattle.impose_rules.specs.Factors.{stripped}
 use Rattle.impose_rules.specs.Leads.{lead_cases}
-use Rattle.subresultants.specs.declared.outcome.RemainderRows.{RemainderRows}
-use Rattle.regular_gcd.specs.LastRows.{last_entry}
+use Rattle.subresultants.specs.declared.outcome.RowEnds.{RowEnds}
 use Rattle.intersect.specs.declared.cases.Case.{Case}
 use Rattle.intersect.specs.declared.cases.Case.TheVariants.{Member, Lead, Initial}
 
@@ -26,12 +25,12 @@ initial_cases p ns [] = []
 initial_cases p ns (l ∷ ls) = elim (is_known_nonzero p ns l) [ true ↦ [] | false ↦ Initial ∷ [] ]
 
 -- the last row, without the leads, has a case where the rows are common
-abbrev pub member_cases : ℕ → ℕ → RemainderRows → Bool → List Case
+abbrev pub member_cases : ℕ → ℕ → RowEnds → Bool → List Case
 member_cases p w rows false = []
-member_cases p w rows true = Member (stripped p w rows.leads (last_entry rows.rows)) ∷ []
+member_cases p w rows true = Member (stripped p w rows.leads rows.last.first) ∷ []
 
 -- the cases by remainder rows, which are common or not
-abbrev pub cases_of_rows : ℕ → ℕ → List Polynomial → RemainderRows → Bool → List Case
+abbrev pub cases_of_rows : ℕ → ℕ → List Polynomial → RowEnds → Bool → List Case
 cases_of_rows p w ns rows common =
     member_cases p w rows common
     ++ map Lead (lead_cases p ns rows.leads)

@@ -5,7 +5,7 @@ use Rattle.polynomials.specs.Views.{lead_in, tail_in}
 use Rattle.zero_sets.specs.Tasks.{Task}
 use Rattle.impose_rules.specs.Leads.{with_all_nonzero}
 use Rattle.chains.specs.Members.{with_polynomial}
-use Rattle.subresultants.specs.declared.outcome.RemainderRows.{RemainderRows}
+use Rattle.subresultants.specs.declared.outcome.RowEnds.{RowEnds}
 use Rattle.subresultants.specs.declared.outcome.Remainders.{Remainders}
 use Rattle.subresultants.specs.declared.outcome.Remainders.TheVariants.{Coprime, Common, TooWide}
 use Rattle.intersect.specs.declared.cases.Case.{Case}
@@ -45,7 +45,7 @@ module _ (p : ℕ) (head : Head) (left : Task) where
   child_in Initial = child_with_initial head left
 
 -- the children by remainder rows that start with r, whose main variable is v
-abbrev pub children_after_rows : ℕ → ℕ → ℕ → Polynomial → Task → RemainderRows → Bool → List Task
+abbrev pub children_after_rows : ℕ → ℕ → ℕ → Polynomial → Task → RowEnds → Bool → List Task
 children_after_rows p w v r left rows common =
     map (child_in p (record { poly = r; variable = v; leads = rows.leads }) left)
     (cases_of_rows p w left.nonzero rows common)

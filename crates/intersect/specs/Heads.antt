@@ -3,7 +3,6 @@ use Rattle.std.specs.Prelude.{◌≡◌, ◌≢◌, ℕ, [], All, Some}
 use Rattle.mono_words.specs.declared.mono.TheConstants.{VARS}
 use Rattle.polynomials.specs.Polynomials.{IsPolynomial, ArePolynomials}
 use Rattle.polynomials.specs.Views.{main_var}
-use Rattle.subresultants.specs.declared.outcome.RemainderRows.{RemainderRows}
 use Rattle.intersect.specs.declared.head.Head.{Head}
 
 -- the polynomial is canonical with that main variable, and the leads are canonical and not 0
@@ -12,11 +11,3 @@ pub record IsHeadOver (p : ℕ) (head : Head) : Type 0 where
   pub canonical : IsPolynomial p VARS head.poly
   pub leads : ArePolynomials p VARS head.leads
   pub nonzero : All (λ l. l ≢ []) head.leads
-
--- rows have a lead
-abbrev pub HasLeads : RemainderRows → Type 0
-HasLeads rows = rows.leads ≢ []
-
--- the leads of rows are canonical
-abbrev pub HasLeadsOver : ℕ → RemainderRows → Type 0
-HasLeadsOver p rows = ArePolynomials p VARS rows.leads

@@ -1,7 +1,7 @@
 ghost use Rattle.std.specs.Prelude.{◌≡◌, ◌≢◌, ◌++◌, [], map, All, IfOk, OnOk};
 ghost use Rattle.polynomials.specs.Polynomials.{IsPolynomial, ArePolynomials};
-ghost use Rattle.division_rules.specs.PolynomialRows.{ArePolynomialRows};
-ghost use Rattle.subresultants.specs.Shape.{HasNonzeroLeads};
+ghost use Rattle.division_rules.specs.PolynomialRows.{IsPolynomialRow};
+ghost use Rattle.subresultants.specs.Ends.{HasLeads};
 ghost use Rattle.intersect.specs.declared.cases.Case.TheVariants.{Lead};
 ghost use Rattle.intersect.specs.Cases.{cases_of_rows, cases_of_head, member_cases, initial_cases};
 
@@ -13,7 +13,7 @@ use poly_quotient::strip;
 use regular_gcd::{Places, common, lead_cases};
 use sparse_poly::{Poly, Polys, Work};
 use std::alloc::{AllocError, Global};
-use subresultants::RemainderRows;
+use subresultants::RowEnds;
 
 /// What vanishes in a child, and what doesn't.
 #[derive(Drop)]
@@ -32,14 +32,12 @@ pub type HeadCases = Items<Case>;
 pub fn cases_of_rows(
     alloc: Global,
     w: &Work,
-    rows: &RemainderRows,
+    rows: &RowEnds,
     is_common: bool,
     nonzero: &NonZero,
 ) -> Result<HeadCases, AllocError>
-    requires rows { ArePolynomialRows w.now.field VARS rows.now.rows }
-    requires over { ArePolynomials w.now.field VARS rows.now.leads }
-    requires leads { HasNonzeroLeads rows.now }
-    requires some { rows.now.leads ≢ [] }
+    requires last { IsPolynomialRow w.now.field VARS rows.now.last }
+    requires leads { HasLeads w.now.field rows.now }
     ensures { IfOk result (λ c. c
         ≡ cases_of_rows w.now.field w.now.width nonzero.now rows.now is_common) }
 {
@@ -76,12 +74,11 @@ pub fn cases_of_head(
 fn member_cases(
     alloc: Global,
     w: &Work,
-    rows: &RemainderRows,
+    rows: &RowEnds,
     is_common: bool,
 ) -> Result<HeadCases, AllocError>
-    requires rows { ArePolynomialRows w.now.field VARS rows.now.rows }
-    requires over { ArePolynomials w.now.field VARS rows.now.leads }
-    requires leads { HasNonzeroLeads rows.now }
+    requires last { IsPolynomialRow w.now.field VARS rows.now.last }
+    requires leads { HasLeads w.now.field rows.now }
     ensures { IfOk result (λ r. r ≡ member_cases w.now.field w.now.width rows.now is_common) }
 {
     let mut cases = HeadCases::new(alloc);

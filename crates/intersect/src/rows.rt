@@ -2,12 +2,11 @@ ghost use Rattle.std.specs.Prelude.{◌≡◌, ◌∷◌, Some, IfOk};
 ghost use Rattle.polynomials.specs.Polynomials.{IsPolynomial};
 ghost use Rattle.polynomials.specs.Views.{main_var};
 ghost use Rattle.zero_sets.specs.ZeroSets.{member_in};
-ghost use Rattle.division_rules.specs.PolynomialRows.{IsPolynomialRow, ArePolynomialRows};
+ghost use Rattle.division_rules.specs.PolynomialRows.{IsPolynomialRow};
 ghost use Rattle.impose_rules.specs.Impose.{child_extended, child_initial, children_at};
 ghost use Rattle.impose_laws.specs.TaskForms.{IsTaskOver};
 ghost use Rattle.row_laws.specs.Words.{IsReducedBy};
-ghost use Rattle.subresultants.specs.Shape.{EachRemainderRow, IfRows, HasNonzeroLeads};
-ghost use Rattle.intersect.specs.Heads.{HasLeads, HasLeadsOver};
+ghost use Rattle.subresultants.specs.Ends.{EachEnd, IfEnds, HasLeads};
 ghost use Rattle.intersect.specs.Children.{children_after_rows, children_by};
 
 use crate::cases::{cases_of_head, cases_of_rows};
@@ -18,7 +17,7 @@ use mono_words::VARS;
 use sparse_poly::{Poly, Polys, Work};
 use split_paths::Tasks;
 use std::alloc::{AllocError, Global};
-use subresultants::{RemainderRows, Remainders, remainder_rows};
+use subresultants::{Remainders, RowEnds, remainder_rows};
 
 /// The children where `r` with the main variable `v` is imposed; `None` where a product of its
 /// remainder rows doesn't fit the width.
@@ -85,10 +84,8 @@ fn children_by(
 ) -> Result<Option<Tasks<Task>>, AllocError>
     requires variable { main_var r ≡ Some v }
     requires head { IsPolynomial w.now.field VARS r }
-    requires rows { EachRemainderRow (IsPolynomialRow w.now.field VARS) remainders }
-    requires leads { IfRows HasNonzeroLeads remainders }
-    requires some { IfRows HasLeads remainders }
-    requires over { IfRows (HasLeadsOver w.now.field) remainders }
+    requires rows { EachEnd (IsPolynomialRow w.now.field VARS) remainders }
+    requires leads { IfEnds (HasLeads w.now.field) remainders }
     ensures { IfOk result (λ kids. kids ≡ children_by w.now.field w.now.width v r left remainders) }
 {
     match remainders {
@@ -108,16 +105,14 @@ fn children_after_rows(
     w: &Work,
     v: usize,
     r: Poly,
-    rows: RemainderRows,
+    rows: RowEnds,
     is_common: bool,
     left: Task,
 ) -> Result<Tasks<Task>, AllocError>
     requires variable { main_var r ≡ Some v }
     requires head { IsPolynomial w.now.field VARS r }
-    requires rows { ArePolynomialRows w.now.field VARS rows.rows }
-    requires leads { HasNonzeroLeads rows }
-    requires some { HasLeads rows }
-    requires over { HasLeadsOver w.now.field rows }
+    requires last { IsPolynomialRow w.now.field VARS rows.last }
+    requires leads { HasLeads w.now.field rows }
     ensures { IfOk result (λ kids. kids
         ≡ children_after_rows w.now.field w.now.width v r left rows is_common) }
 {

@@ -1,4 +1,2 @@
 pub mod NonzeroLeads
 pub mod NewLeads
-pub mod LastEntries
-pub mod RowLeads

@@ -1,8 +1,8 @@
 ghost use Rattle.std.specs.Prelude.{◌≡◌, ◌≢◌, ◌++◌, [], not, IfOk, OnOk};
-ghost use Rattle.polynomials.specs.Polynomials.{IsPolynomial, ArePolynomials};
+ghost use Rattle.polynomials.specs.Polynomials.{IsPolynomial};
 ghost use Rattle.zero_sets.specs.Tasks.{is_known_nonzero, with_nonzero};
 ghost use Rattle.impose_rules.specs.Leads.{lead_cases};
-ghost use Rattle.subresultants.specs.Shape.{HasNonzeroLeads};
+ghost use Rattle.subresultants.specs.Ends.{HasLeads};
 
 use chains::NonZero;
 use field_table::Field;
@@ -10,7 +10,7 @@ use item_lists::Items;
 use mono_words::VARS;
 use sparse_poly::Poly;
 use std::alloc::{AllocError, Global};
-use subresultants::RemainderRows;
+use subresultants::RowEnds;
 
 /// Numbers of remainder rows.
 pub type Places = Items<usize>;
@@ -19,12 +19,10 @@ pub type Places = Items<usize>;
 pub fn lead_cases(
     alloc: Global,
     f: Field,
-    rows: &RemainderRows,
+    rows: &RowEnds,
     nonzero: &NonZero,
 ) -> Result<Places, AllocError>
-    requires over { ArePolynomials f VARS rows.now.leads }
-    requires leads { HasNonzeroLeads rows.now }
-    requires some { rows.now.leads ≢ [] }
+    requires leads { HasLeads f rows.now }
     ensures { IfOk result (λ places. places ≡ lead_cases f nonzero.now rows.now.leads) }
 {
     let leads = &rows.leads;

@@ -1,7 +1,7 @@
-ghost use Rattle.std.specs.Prelude.{◌≢◌, [], IfOk, IfSome};
-ghost use Rattle.polynomials.specs.Polynomials.{IsPolynomial, ArePolynomials};
-ghost use Rattle.division_rules.specs.PolynomialRows.{ArePolynomialRows};
-ghost use Rattle.subresultants.specs.Shape.{HasNonzeroLeads};
+ghost use Rattle.std.specs.Prelude.{IfOk, IfSome};
+ghost use Rattle.polynomials.specs.Polynomials.{IsPolynomial};
+ghost use Rattle.division_rules.specs.PolynomialRows.{IsPolynomialRow};
+ghost use Rattle.subresultants.specs.Ends.{HasLeads};
 
 use super::*;
 use chains::NonZero;
@@ -10,7 +10,7 @@ use mono_words::{Mono, VARS};
 use sparse_poly::{Poly, Polys, Work};
 use std::alloc::{AllocError, Global};
 use std::test::Fail;
-use subresultants::{RemainderRows, Remainders, remainder_rows};
+use subresultants::{Remainders, RowEnds, remainder_rows};
 
 /// The place of x among the variables a and x.
 const X: usize = 1;
@@ -34,13 +34,11 @@ fn poly(alloc: Global, f: Field, terms: &[Term]) -> Result<Poly, AllocError>
 }
 
 /// The remainder rows of `t` and `c` in x, where they start rows.
-fn rows_of(alloc: Global, w: Work, t: &Poly, c: &Poly) -> Result<Option<RemainderRows>, AllocError>
+fn rows_of(alloc: Global, w: Work, t: &Poly, c: &Poly) -> Result<Option<RowEnds>, AllocError>
     requires first { IsPolynomial w.field VARS t.now }
     requires second { IsPolynomial w.field VARS c.now }
-    ensures rows { IfOk result (λ o. IfSome o (λ r. ArePolynomialRows w.field VARS r.rows)) }
-    ensures over { IfOk result (λ o. IfSome o (λ r. ArePolynomials w.field VARS r.leads)) }
-    ensures leads { IfOk result (λ o. IfSome o HasNonzeroLeads) }
-    ensures some { IfOk result (λ o. IfSome o (λ r. r.leads ≢ [])) }
+    ensures last { IfOk result (λ o. IfSome o (λ r. IsPolynomialRow w.field VARS r.last)) }
+    ensures leads { IfOk result (λ o. IfSome o (HasLeads w.field)) }
 {
     let below = Polys::new(alloc);
     if c.degree_in(X) < 1 || c.degree_in(X) >= t.degree_in(X) {

@@ -2,13 +2,12 @@
 use Rattle.std.proofs.Common.{◌≡◌, ℕ, suc, ◌+◌, ◌<◌, ◌≤◌, true, false, eqb, List, ◌∷◌, length, Option, Some, None, length-append, refl, sym, ap, ◌∙◌, subst, arith}
 use Rattle.std.proofs.lemmas.Bool.{eqb-true, false_from_ne_true}
 use Rattle.mono_words.specs.declared.mono.TheConstants.{VARS}
-use Rattle.polynomials.specs.Polynomials.{Polynomial, IsPolynomial, ArePolynomials}
+use Rattle.polynomials.specs.Polynomials.{Polynomial, IsPolynomial}
 use Rattle.polynomials.specs.Views.{degree_in, IsFreeOf, initial_of}
 use Rattle.zero_sets.specs.ZeroSets.{member_in, members_below}
 use Rattle.division_rules.specs.PolynomialRows.{IsPolynomialRow}
 use Rattle.division_rules.specs.Rows.{Row}
 use Rattle.division_rules.specs.RemainderRows.{LaterRows}
-use Rattle.division_rules.specs.RemainderRowsWithin.{remainder_rows_within}
 use Rattle.division_rules.specs.Turns.{last_row}
 use Rattle.division_rules.specs.Cofactors.{first_cofactor}
 use Rattle.division_rules.specs.RemainderRows.{leads}
@@ -23,12 +22,11 @@ use Rattle.tree_laws.specs.Points.{IfEmitted}
 use Rattle.tree_laws.specs.Steps.{fitting_then, gives_way_to}
 use Rattle.tree_laws.proofs.Steps.{fitting_holds, nothing_emitted}
 use Rattle.chains.proofs.MemberSteps.{main_variable_small, member_main}
-use Rattle.subresultants.specs.Generators.{generator_row, generator_rows}
+use Rattle.subresultants.specs.Ends.{EachEnd, ends_of}
 use Rattle.subresultants.specs.Outcomes.{remainders_of}
-use Rattle.subresultants.specs.Shape.{EachRemainderRow, IfRows}
+use Rattle.subresultants.specs.Shape.{EachRemainderRow}
 use Rattle.subresultants.specs.declared.outcome.Remainders.{Remainders}
 use Rattle.subresultants.proofs.PolynomialRemainders as made
-use Rattle.regular_gcd.proofs.RowLeads.{outcome_leads}
 use Rattle.certificates.proofs.Members.{lower_canonical}
 use Rattle.finish_rules.specs.Remainders.{remainder_of}
 use Rattle.finish_rules.specs.Identities.{composed_within}
@@ -90,18 +88,15 @@ module _ (p u : ℕ) (chain : List Polynomial) (f : Row Polynomial) (is : HasIde
       pub turn_starts : (lower : List Polynomial) → lower ≡ members_below u chain → StartRemainderRows u lower t f.first
       turn_starts lower those = subst (λ fs. StartRemainderRows u fs t f.first) (sym those) (members_start_remainder_rows u chain t f.first is.member.triangular found is.identity.reduced occurs)
 
-      module _ (w count : ℕ) (lower : List Polynomial) (same : count ≡ length lower) (those : lower ≡ members_below u chain) (remainders : Remainders) (value : remainders ≡ remainders_of p w u true t f.first lower) where
+      module _ (w count : ℕ) (lower : List Polynomial) (same : count ≡ length lower) (those : lower ≡ members_below u chain) (remainders : Remainders) (value : remainders ≡ ends_of (remainders_of p w u true t f.first lower)) where
         -- each row has two cofactors more than there are polynomials below
-        pub turn_counts : EachRemainderRow (λ g. length g.cofactors ≡ count + 2) remainders
+        pub turn_counts : EachEnd (λ g. length g.cofactors ≡ count + 2) remainders
         turn_counts =
             let two : 2 + length lower ≡ count + 2 = omega (arith, same) in
-            subst (EachRemainderRow (λ g. length g.cofactors ≡ count + 2)) (sym value)
+            subst (EachEnd (λ g. length g.cofactors ≡ count + 2)) (sym value)
+            (made.kept p w u true t f.first lower (λ g. length g.cofactors ≡ count + 2)
             (subst (λ k. EachRemainderRow (λ g. length g.cofactors ≡ k) (remainders_of p w u true t f.first lower)) two
-            (made.counts p w u true is.member.prime t f.first lower turn_canonical row_canonical.0 (lower_canonical p VARS u chain lower is.member.canonical those) (turn_starts lower those)))
-
-        -- their leads are canonical
-        pub turn_leads : EachRemainderRow (IsPolynomialRow p VARS) remainders → IfRows (λ r. ArePolynomials p VARS r.leads) remainders
-        turn_leads over = outcome_leads p u (generator_row true 1 (length lower) t) (generator_row true 0 (suc (length lower)) f.first) (remainder_rows_within (operations p) w u (generator_rows p true 2 lower) (generator_row true 1 (length lower) t) (generator_row true 0 (suc (length lower)) f.first)) remainders value over
+            (made.counts p w u true is.member.prime t f.first lower turn_canonical row_canonical.0 (lower_canonical p VARS u chain lower is.member.canonical those) (turn_starts lower those))))
 
 module _ (p w u : ℕ) (chain ns : List Polynomial) (s : IdentitySoFar) (is : HasIdentity p (suc u) chain s.row) (t : Polynomial) (found : member_in u chain ≡ Some t) (occurs : 1 ≤ degree_in u s.row.first) where
   abbrev by_rows : (IdentitySoFar → Turned) → Turned
@@ -112,8 +107,8 @@ module _ (p w u : ℕ) (chain ns : List Polynomial) (s : IdentitySoFar) (is : Ha
   turn_is further = ap (turn_at p VARS w chain ns u further s) found ∙ ap (λ b. elim b as (λ _. Turned) [ true ↦ further s | false ↦ by_rows further ]) (false_from_ne_true (eqb (degree_in u s.row.first) 0) (λ e. let none = eqb-true (degree_in u s.row.first) 0 e in omega arith))
 
   -- so it is what the outcome of the remainder rows makes
-  pub made_step : (lower : List Polynomial) (remainders : Remainders) (r : Turn) → lower ≡ members_below u chain → remainders ≡ remainders_of p w u true t s.row.first lower → ((further : IdentitySoFar → Turned) → after further r ≡ turn_by_outcome p w chain ns further s remainders) → (further : IdentitySoFar → Turned) → after further r ≡ turn_at p VARS w chain ns u further s (member_in u chain)
-  made_step lower remainders r those value each further = each further ∙ ap (turn_by_outcome p w chain ns further s) (value ∙ ap (remainders_of p w u true t s.row.first) those) ∙ outcome_turn p w chain ns further s u t ∙ sym (turn_is further)
+  pub made_step : (lower : List Polynomial) (remainders : Remainders) (r : Turn) → lower ≡ members_below u chain → remainders ≡ ends_of (remainders_of p w u true t s.row.first lower) → ((further : IdentitySoFar → Turned) → after further r ≡ turn_by_outcome p w chain ns further s remainders) → (further : IdentitySoFar → Turned) → after further r ≡ turn_at p VARS w chain ns u further s (member_in u chain)
+  made_step lower remainders r those value each further = each further ∙ ap (turn_by_outcome p w chain ns further s) (value ∙ ap (λ xs. ends_of (remainders_of p w u true t s.row.first xs)) those) ∙ outcome_turn p w chain ns further s u t ∙ sym (turn_is further)
 
   abbrev Emits : Turned → Type 0
   Emits x = IfEmitted (HasIdentity p u chain) x

@@ -1,12 +1,9 @@
 -- One turn: what comes after it, and the same by remainder rows.
-use Rattle.std.specs.Prelude.{◌≢◌, ℕ, List, [], ◌∷◌}
+use Rattle.std.specs.Prelude.{ℕ, List}
 use Rattle.mono_words.specs.declared.mono.TheConstants.{VARS}
 use Rattle.polynomials.specs.Polynomials.{Polynomial}
-use Rattle.division_rules.specs.Rows.{Row}
-use Rattle.division_rules.specs.Turns.{last_row}
 use Rattle.split_paths.specs.declared.splitter.Step.TheVariants as step
 use Rattle.tree_laws.specs.Steps.{gives_way_to}
-use Rattle.subresultants.specs.declared.outcome.RemainderRows.{RemainderRows}
 use Rattle.subresultants.specs.declared.outcome.Remainders.{Remainders}
 use Rattle.subresultants.specs.declared.outcome.Remainders.TheVariants as outcome
 use Rattle.finish_rules.specs.Turns.{IdentitySoFar, Turned, coprime_turn, common_turn}
@@ -25,20 +22,9 @@ IfFurther P (Further s) = P s
 IfFurther P (Vanishing fs) = Unit {0}
 IfFurther P TooWide = Unit {0}
 
--- there are rows
-abbrev pub HasRows : RemainderRows → Type 0
-HasRows r = r.rows ≢ []
-
 module _ (p w : ℕ) (chain ns : List Polynomial) where
-  -- the turn by the last of the rows
-  abbrev pub turn_by_last :
-      (IdentitySoFar → Turned) → IdentitySoFar → List (Row Polynomial) → Turned
-  turn_by_last further s [] = step.TooWide
-  turn_by_last further s (f ∷ rows) =
-      coprime_turn p VARS w chain ns further s (last_row f rows)
-
   -- the turn by how the rows end
   abbrev pub turn_by_outcome : (IdentitySoFar → Turned) → IdentitySoFar → Remainders → Turned
-  turn_by_outcome further s (outcome.Coprime r) = turn_by_last further s r.rows
+  turn_by_outcome further s (outcome.Coprime r) = coprime_turn p VARS w chain ns further s r.last
   turn_by_outcome further s (outcome.Common r z) = common_turn p VARS w chain ns s r.leads z
   turn_by_outcome further s outcome.TooWide = step.TooWide

@@ -1,19 +1,18 @@
-ghost use Rattle.std.specs.Prelude.{◌≡◌, ◌≢◌, ◌<◌, ◌+◌, suc, List, [], length, IfOk};
+ghost use Rattle.std.specs.Prelude.{◌≡◌, ◌<◌, ◌+◌, suc, List, length, IfOk};
 ghost use Rattle.polynomials.specs.Polynomials.{Polynomial, ArePolynomials};
 ghost use Rattle.zero_sets.specs.ZeroSets.{IsTriangular, member_in};
-ghost use Rattle.division_rules.specs.Chains.{EachRow};
-ghost use Rattle.division_rules.specs.PolynomialRows.{IsPolynomialRow, ArePolynomialRows};
-ghost use Rattle.finish_rules.specs.Turns.{IdentitySoFar, Turned, turn_at};
-ghost use Rattle.subresultants.specs.Shape.{EachRemainderRow, IfRows, HasNonzeroLeads};
+ghost use Rattle.division_rules.specs.PolynomialRows.{IsPolynomialRow};
+ghost use Rattle.finish_rules.specs.Turns.{IdentitySoFar, Turned, coprime_turn, turn_at};
+ghost use Rattle.subresultants.specs.Ends.{EachEnd, IfEnds, HasLeads};
 ghost use Rattle.regularise.specs.Identities.{HasIdentity};
-ghost use Rattle.regularise.specs.Turns.{after, IfFurther, HasRows, turn_by_last, turn_by_outcome};
+ghost use Rattle.regularise.specs.Turns.{after, IfFurther, turn_by_outcome};
 
 use crate::identity::{IdentitySoFar, Turn};
 use crate::vanishing::vanishing;
 use certificates::compose;
 use chains::{Chain, NonZero};
 use mono_words::VARS;
-use pseudo_division::Rows;
+use pseudo_division::Row;
 use sparse_poly::Work;
 use std::alloc::{AllocError, Global};
 use subresultants::{Remainders, remainder_rows};
@@ -63,42 +62,38 @@ fn turn_by(
     requires triangular { IsTriangular chain.now }
     requires sofar { IsPolynomialRow w.now.field VARS sofar.now.row }
     requires room { place + 1 < length sofar.now.row.cofactors }
-    requires rows { EachRemainderRow (IsPolynomialRow w.now.field VARS) remainders.now }
-    requires counts { EachRemainderRow (λ f. length f.cofactors ≡ place + 2) remainders.now }
-    requires some { IfRows HasRows remainders.now }
-    requires leads { IfRows HasNonzeroLeads remainders.now }
-    requires over { IfRows (λ r. ArePolynomials w.now.field VARS r.leads) remainders.now }
+    requires rows { EachEnd (IsPolynomialRow w.now.field VARS) remainders.now }
+    requires counts { EachEnd (λ f. length f.cofactors ≡ place + 2) remainders.now }
+    requires leads { IfEnds (HasLeads w.now.field) remainders.now }
     ensures { IfOk result (λ r. (further : IdentitySoFar → Turned) → after further r
         ≡ turn_by_outcome w.now.field w.now.width chain.now nonzero.now further sofar.now
         remainders.now) }
 {
     match remainders {
         Remainders::TooWide => Ok(Turn::TooWide),
-        Remainders::Coprime(rows) => composed(alloc, w, sofar, &rows.rows, place),
+        Remainders::Coprime(rows) => composed(alloc, w, sofar, &rows.last, place),
         Remainders::Common(rows, zero) => {
             vanishing(alloc, w, chain, nonzero, sofar, &rows.leads, zero)
         }
     }
 }
 
-/// The identity composed with the last of the rows.
+/// The identity composed with the last row.
 fn composed(
     alloc: Global,
     w: &Work,
     sofar: &IdentitySoFar,
-    rows: &Rows,
+    last: &Row,
     place: usize,
 ) -> Result<Turn, AllocError>
     requires sofar { IsPolynomialRow w.now.field VARS sofar.now.row }
     requires room { place + 1 < length sofar.now.row.cofactors }
-    requires rows { ArePolynomialRows w.now.field VARS rows.now }
-    requires counts { EachRow (λ f. length f.cofactors ≡ place + 2) rows.now }
-    requires some { rows.now ≢ [] }
+    requires last { IsPolynomialRow w.now.field VARS last.now }
+    requires count { length last.now.cofactors ≡ place + 2 }
     ensures { IfOk result (λ r. (chain ns : List Polynomial) (further : IdentitySoFar → Turned)
-        → after further r ≡ turn_by_last w.now.field w.now.width chain ns further sofar.now
-        rows.now) }
+        → after further r ≡ coprime_turn w.now.field VARS w.now.width chain ns further sofar.now
+        last.now) }
 {
-    let last = rows.at(rows.count() - 1);
     match compose(alloc, *w, &sofar.row, last, place)? {
         None => Ok(Turn::TooWide),
         Some(row) => Ok(Turn::Further(IdentitySoFar {

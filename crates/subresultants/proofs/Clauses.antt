@@ -34,7 +34,7 @@ use Rattle.row_laws.proofs.Lifts.{lifted-remainder_rows}
 use Rattle.row_laws.proofs.VanishingRows.{remainder_rows_vanish}
 use Rattle.subresultants.specs.Outcomes.{with_leads, ended, outcome_after, outcome_of}
 use Rattle.subresultants.specs.Shape.{EachRemainderRow, IfRows, HasFallingDegrees, DegreesFallAlong, IsReducedFromRowOne, HasNonzeroLeads, IfCoprime, EndsWithItsLead, VanishesBehindLeads, VanishesWithGenerators}
-use Rattle.subresultants.specs.declared.outcome.RemainderRows.{RemainderRows}
+use Rattle.subresultants.specs.AllRows.{RemainderRows}
 use Rattle.subresultants.proofs.CofactorCounts.{HasCount, count-undivided, count-next_row}
 use Rattle.subresultants.proofs.LastLeads.{length-leads, ends_with_lead}
 use Rattle.subresultants.proofs.Nonzero.{gives_is}

@@ -17,7 +17,7 @@ use Rattle.cofactor_laws.proofs.ReducedCofactors.{cofactor_lead_is_zero_by_leads
 use Rattle.subresultants.specs.Cofactors.{IfCommon, HasCofactorSteps, VanishesByLeads, ShowsLeadWhereReduced}
 use Rattle.subresultants.specs.Generators.{generator_row, generator_rows}
 use Rattle.subresultants.specs.Outcomes.{with_leads, ended, outcome_after, remainders_of}
-use Rattle.subresultants.specs.declared.outcome.RemainderRows.{RemainderRows}
+use Rattle.subresultants.specs.AllRows.{RemainderRows}
 use Rattle.subresultants.proofs.Nonzero.{gives_is}
 
 module _ (p w v : ℕ) (prime : IsPrime p) (t c : Polynomial) (chain : List Polynomial) (it : IsPolynomial p VARS t) (ic : IsPolynomial p VARS c) (are : ArePolynomials p VARS chain) (start : StartRemainderRows v chain t c) where

@@ -6,6 +6,7 @@ pub mod Outcomes
 pub mod CofactorCounts
 pub mod RowTurns
 pub mod Starts
+pub mod Ends
 pub mod Sequences
 pub mod Clauses
 pub mod PolynomialRemainders

@@ -11,8 +11,7 @@ use Rattle.division_rules.specs.RemainderRowsWithin.{psi_within, beta_within, un
 use Rattle.pseudo_division.specs.FieldOperations.{operations}
 use Rattle.subresultants.specs.Outcomes.{with_leads, outcome_after}
 use Rattle.subresultants.specs.Turns.{divisors_within, divided_turn, turn_within}
-use Rattle.subresultants.specs.declared.outcome.Remainders.{Remainders}
-use Rattle.subresultants.specs.declared.outcome.Remainders.TheVariants.{Coprime, Common, TooWide}
+use Rattle.subresultants.specs.AllRows.{AllRemainders, Coprime, Common, TooWide}
 use Rattle.subresultants.specs.declared.turn.NextRow.{NextRow}
 use Rattle.subresultants.specs.declared.turn.NextRow.TheVariants.{Zero, Later}
 
@@ -76,7 +75,7 @@ module _ (p w v : ℕ) (chain : List (Row Polynomial)) where
 
     module _ (rows : List (Row Polynomial)) where
       -- the outcome of the sequence so far
-      abbrev Outcome : Remainders
+      abbrev Outcome : AllRemainders
       Outcome = outcome_after p v rows (rows_from_within (operations p) w v chain (suc k) m f g)
 
       by_turn : (t : Option NextRow) → turn_within p w v chain m f g ≡ t → Outcome ≡ outcome_after p v rows (and_then t (rows_after k g))

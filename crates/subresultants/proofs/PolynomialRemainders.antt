@@ -8,6 +8,7 @@ use Rattle.zero_sets.specs.ZeroSets.{IsTriangularFrom}
 use Rattle.division_rules.specs.Lists.{variable_or_zero}
 use Rattle.division_rules.specs.Rows.{Row, first_entries}
 use Rattle.division_rules.specs.Chains.{EachRow}
+use Rattle.division_rules.specs.RemainderRowsWithin.{remainder_rows_within}
 use Rattle.division_rules.specs.PolynomialRows.{IsPolynomialRow, ArePolynomialRows}
 use Rattle.division_rules.specs.Units.{IsCombinationOf}
 use Rattle.division_rules.proofs.Steps.{EachRow-map}
@@ -16,11 +17,12 @@ use Rattle.row_laws.specs.Words.{AreBelow, StartRemainderRows}
 use Rattle.row_laws.specs.Combinations.{IsRowOver}
 use Rattle.row_laws.proofs.CombinationRows.{combinations_are_kept}
 use Rattle.row_laws.proofs.Starts.{variable_below}
+use Rattle.subresultants.specs.Ends.{EachEnd, IfEnds, HasLeads, ends_of}
 use Rattle.subresultants.specs.Generators.{generator_row, generator_rows}
 use Rattle.subresultants.specs.Outcomes.{outcome_of, remainders_of}
 use Rattle.subresultants.specs.Shape.{EachRemainderRow, IfRows, HasFallingDegrees, IsReducedFromRowOne, HasNonzeroLeads, IfCoprime, EndsWithItsLead, VanishesWithGenerators}
-use Rattle.subresultants.specs.declared.outcome.Remainders.{Remainders}
-use Rattle.subresultants.specs.declared.outcome.Remainders.TheVariants.{Coprime, Common, TooWide}
+use Rattle.subresultants.specs.AllRows.{AllRemainders, Coprime, Common, TooWide}
+use Rattle.subresultants.proofs.Ends.{each_kept, leads_kept}
 use Rattle.subresultants.proofs.Clauses.{outcome_canonical, outcome_combinations, outcome_counts, outcome_falls, outcome_last_lead, outcome_leads, outcome_reduced, outcome_vanishes}
 use Rattle.subresultants.proofs.GeneratorRows.{generator_row-first, generator_rows-entries, cofactor_count, generator_row-count, generator_rows-count, generator_row-canonical, generator_rows-canonical}
 
@@ -30,7 +32,7 @@ if_ok P x (Ok r) e h = subst P (sym e) h
 if_ok P x (Err e) h i = tt
 
 -- what follows for a row follows for each
-EachRemainderRow-map : (P Q : Row Polynomial → Type 0) → ((f : Row Polynomial) → P f → Q f) → (r : Remainders) → EachRemainderRow P r → EachRemainderRow Q r
+EachRemainderRow-map : (P Q : Row Polynomial → Type 0) → ((f : Row Polynomial) → P f → Q f) → (r : AllRemainders) → EachRemainderRow P r → EachRemainderRow Q r
 EachRemainderRow-map P Q follows (Coprime r) h = EachRow-map P Q r.rows follows h
 EachRemainderRow-map P Q follows (Common r z) h = (EachRow-map P Q r.rows follows h.0, follows z h.1)
 EachRemainderRow-map P Q follows TooWide h = tt
@@ -49,6 +51,13 @@ few_below v u (t ∷ chain) most triangular below =
     let least = triangular.2 in
     let rest = few_below v (suc triangular.0) chain (omega arith) triangular.3 below.1 in
     omega arith
+
+-- what holds of each row holds of what is kept
+pub kept : (p w v : ℕ) (cofactors : Bool) (t c : Polynomial) (chain : List Polynomial) (P : Row Polynomial → Type 0) → EachRemainderRow P (remainders_of p w v cofactors t c chain) → EachEnd P (ends_of (remainders_of p w v cofactors t c chain))
+kept p w v cofactors t c chain P each =
+    let row_t = generator_row cofactors 1 (length chain) t in
+    let row_c = generator_row cofactors 0 (suc (length chain)) c in
+    each_kept p v row_t row_c P (remainder_rows_within (operations p) w v (generator_rows p cofactors 2 chain) row_t row_c) each
 
 module _ (p w v : ℕ) (cofactors : Bool) (prime : IsPrime p) (t c : Polynomial) (chain : List Polynomial) (it : IsPolynomial p VARS t) (ic : IsPolynomial p VARS c) (are : ArePolynomials p VARS chain) (start : StartRemainderRows v chain t c) where
   abbrev pub row_t : Row Polynomial
@@ -103,6 +112,10 @@ module _ (p w v : ℕ) (cofactors : Bool) (prime : IsPrime p) (t c : Polynomial)
 
   pub leads : IfRows HasNonzeroLeads (remainders_of p w v cofactors t c chain)
   leads = outcome_leads p w v prime rows rows_canonical row_t row_c t_canonical c_canonical rows_start
+
+  -- the leads are kept
+  pub kept_leads : IfEnds (HasLeads p) (ends_of (remainders_of p w v cofactors t c chain))
+  kept_leads = leads_kept p v row_t row_c (remainder_rows_within (operations p) w v rows row_t row_c) over leads
 
   pub last_lead : IfCoprime EndsWithItsLead (remainders_of p w v cofactors t c chain)
   last_lead = outcome_last_lead p w v prime rows rows_canonical row_t row_c t_canonical c_canonical rows_start

@@ -12,12 +12,10 @@ use Rattle.division_rules.specs.Cofactors.{first_cofactor, AreCofactorSteps}
 use Rattle.pseudo_division.specs.FieldOperations.{operations}
 use Rattle.row_laws.specs.Words.{reduction_of}
 use Rattle.cofactor_laws.specs.Laws.{StandsInTriangular}
-use Rattle.subresultants.specs.declared.outcome.RemainderRows.{RemainderRows}
-use Rattle.subresultants.specs.declared.outcome.Remainders.{Remainders}
-use Rattle.subresultants.specs.declared.outcome.Remainders.TheVariants.{Coprime, Common, TooWide}
+use Rattle.subresultants.specs.AllRows.{RemainderRows, AllRemainders, Coprime, Common, TooWide}
 
 -- P holds of common rows and their zero row
-abbrev pub IfCommon : (RemainderRows → Row Polynomial → Type 0) → Remainders → Type 0
+abbrev pub IfCommon : (RemainderRows → Row Polynomial → Type 0) → AllRemainders → Type 0
 IfCommon P (Coprime r) = Unit {0}
 IfCommon P (Common r z) = P r z
 IfCommon P TooWide = Unit {0}

@@ -8,18 +8,16 @@ use Rattle.division_rules.specs.Chains.{EachRow}
 use Rattle.division_rules.specs.Turns.{DegreesFall}
 use Rattle.pseudo_division.specs.FieldOperations.{operations}
 use Rattle.row_laws.specs.Words.{IsReducedBy}
-use Rattle.subresultants.specs.declared.outcome.RemainderRows.{RemainderRows}
-use Rattle.subresultants.specs.declared.outcome.Remainders.{Remainders}
-use Rattle.subresultants.specs.declared.outcome.Remainders.TheVariants.{Coprime, Common, TooWide}
+use Rattle.subresultants.specs.AllRows.{RemainderRows, AllRemainders, Coprime, Common, TooWide}
 
 -- P holds of each row, the zero row too
-abbrev pub EachRemainderRow : (Row Polynomial → Type 0) → Remainders → Type 0
+abbrev pub EachRemainderRow : (Row Polynomial → Type 0) → AllRemainders → Type 0
 EachRemainderRow P (Coprime r) = EachRow P r.rows
 EachRemainderRow P (Common r z) = EachRow P r.rows × P z
 EachRemainderRow P TooWide = Unit {0}
 
 -- P holds of the rows with their leads, where there are any
-abbrev pub IfRows : (RemainderRows → Type 0) → Remainders → Type 0
+abbrev pub IfRows : (RemainderRows → Type 0) → AllRemainders → Type 0
 IfRows P (Coprime r) = P r
 IfRows P (Common r z) = P r
 IfRows P TooWide = Unit {0}
@@ -30,7 +28,7 @@ DegreesFallAlong p v [] last = ⊥
 DegreesFallAlong p v (f ∷ rows) last = DegreesFall (operations p) v f rows last
 
 -- degrees fall: coprime rows end with the degree 0, and common ones before it, with a row that is 0
-abbrev pub HasFallingDegrees : ℕ → ℕ → Remainders → Type 0
+abbrev pub HasFallingDegrees : ℕ → ℕ → AllRemainders → Type 0
 HasFallingDegrees p v (Coprime r) = DegreesFallAlong p v r.rows None
 HasFallingDegrees p v (Common r z) = DegreesFallAlong p v r.rows (Some z)
 HasFallingDegrees p v TooWide = Unit {0}
@@ -45,7 +43,7 @@ pub record HasNonzeroLeads (r : RemainderRows) : Type 0 where
   pub nonzero : All (λ l. l ≢ []) r.leads
 
 -- P holds of coprime rows
-abbrev pub IfCoprime : (RemainderRows → Type 0) → Remainders → Type 0
+abbrev pub IfCoprime : (RemainderRows → Type 0) → AllRemainders → Type 0
 IfCoprime P (Coprime r) = P r
 IfCoprime P (Common r z) = Unit {0}
 IfCoprime P TooWide = Unit {0}

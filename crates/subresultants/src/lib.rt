@@ -10,7 +10,7 @@ mod sequence;
 mod turn;
 
 pub use generators::{generator_row, generator_rows};
-pub use outcome::{RemainderRows, Remainders};
+pub use outcome::{Remainders, RowEnds};
 pub use sequence::remainder_rows;
 
 #[cfg(test)]

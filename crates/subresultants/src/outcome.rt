@@ -1,20 +1,20 @@
-use pseudo_division::{Row, Rows};
+use pseudo_division::Row;
 use sparse_poly::Polys;
 
-/// Row 0 to row k, and the leads of row 1 to row k.
+/// Row k, the last of remainder rows, and the leads of row 1 to row k.
 #[derive(Drop)]
-pub struct RemainderRows {
-    pub rows: Rows,
+pub struct RowEnds {
+    pub last: Row,
     pub leads: Polys,
 }
 
-/// How remainder rows end.
+/// How remainder rows end. Of the rows only the last one is kept.
 #[derive(Drop)]
 pub enum Remainders {
     /// The last row has degree 0.
-    Coprime(RemainderRows),
+    Coprime(RowEnds),
     /// The row that would follow, which comes second, has the first entry 0.
-    Common(RemainderRows, Row),
+    Common(RowEnds, Row),
     /// A product doesn't fit the width.
     TooWide,
 }

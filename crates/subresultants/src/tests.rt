@@ -4,7 +4,6 @@ ghost use Rattle.polynomials.specs.Polynomials.{IsPolynomial};
 use super::*;
 use field_table::Field;
 use mono_words::{Mono, VARS};
-use pseudo_division::Rows;
 use sparse_poly::{Poly, Polys, Work};
 use std::alloc::{AllocError, Global};
 use std::test::Fail;
@@ -71,26 +70,14 @@ fn polys_are(alloc: Global, f: Field, list: &Polys, terms: &[&[Term]]) -> Result
     Ok(list.count() == terms.len())
 }
 
-/// Whether these are the first entries of the rows from row 2 on.
-fn rows_are(alloc: Global, f: Field, rows: &Rows, terms: &[&[Term]]) -> Result<bool, AllocError> {
-    let mut i = 2;
-    for expected in terms {
-        if i >= rows.count() || rows.at(i).first != poly(alloc, f, expected)? {
-            return Ok(false);
-        }
-        i += 1;
-    }
-    Ok(rows.count() == i)
-}
-
-/// Whether the remainder rows without cofactors end as is expected, with these first entries from
-/// row 2 on and these leads.
+/// Whether the remainder rows without cofactors end as is expected, with this first entry of the last
+/// row and these leads.
 fn ends(
     alloc: Global,
     p: u64,
     starts: [&[Term]; 3],
     common: bool,
-    later: &[&[Term]],
+    last: &[Term],
     leads: &[&[Term]],
 ) -> Result<bool, Fail> {
     let field = Field::of(p)?;
@@ -105,7 +92,7 @@ fn ends(
     };
     Ok(
         is_common == common
-            && rows_are(alloc, field, &rows.rows, later)?
+            && rows.last.first == poly(alloc, field, last)?
             && polys_are(alloc, field, &rows.leads, leads)?,
     )
 }
@@ -120,7 +107,7 @@ fn rows_are_those_of_an_independent_program(rt: HostRuntime) -> Result<(), Fail>
             5,
             [&[(0, 0, 2, 1), (1, 0, 0, 4)], &[(0, 0, 1, 1)], &[]],
             false,
-            &[&[(1, 0, 0, 4)]],
+            &[(1, 0, 0, 4)],
             &[&[(0, 0, 0, 1)], &[(1, 0, 0, 4)]]
         )?
     );
@@ -134,7 +121,7 @@ fn rows_are_those_of_an_independent_program(rt: HostRuntime) -> Result<(), Fail>
                 &[]
             ],
             true,
-            &[],
+            &[(0, 0, 1, 1), (0, 0, 0, 4)],
             &[&[(0, 0, 0, 1)]]
         )?
     );
@@ -149,7 +136,7 @@ fn rows_are_those_of_an_independent_program(rt: HostRuntime) -> Result<(), Fail>
                 &[(2, 0, 0, 1)]
             ],
             true,
-            &[&[(1, 0, 1, 2), (0, 0, 1, 1), (1, 0, 0, 4), (0, 0, 0, 4)]],
+            &[(1, 0, 1, 2), (0, 0, 1, 1), (1, 0, 0, 4), (0, 0, 0, 4)],
             &[&[(1, 0, 0, 1)], &[(1, 0, 0, 2), (0, 0, 0, 1)]]
         )?
     );
@@ -164,7 +151,7 @@ fn rows_are_those_of_an_independent_program(rt: HostRuntime) -> Result<(), Fail>
                 &[(1, 2, 0, 1), (0, 1, 0, 2)]
             ],
             true,
-            &[&[(1, 1, 2, 1)], &[(2, 1, 1, 2)]],
+            &[(2, 1, 1, 2)],
             &[&[(1, 1, 0, 1)], &[(1, 1, 0, 1)], &[(2, 1, 0, 2)]]
         )?
     );
@@ -178,11 +165,7 @@ fn rows_are_those_of_an_independent_program(rt: HostRuntime) -> Result<(), Fail>
                 &[(2, 0, 0, 1)]
             ],
             false,
-            &[
-                &[(0, 2, 2, 1), (0, 4, 1, 1)],
-                &[(0, 7, 1, 1), (0, 3, 0, 1)],
-                &[(0, 10, 0, 1), (0, 4, 0, 1)]
-            ],
+            &[(0, 10, 0, 1), (0, 4, 0, 1)],
             &[
                 &[(0, 1, 0, 1)],
                 &[(0, 2, 0, 1)],
@@ -198,7 +181,7 @@ fn rows_are_those_of_an_independent_program(rt: HostRuntime) -> Result<(), Fail>
             32003,
             [&[(2, 2, 4, 21686)], &[(0, 1, 3, 5276), (0, 1, 0, 390)], &[]],
             false,
-            &[&[(2, 4, 1, 25881)], &[(6, 10, 0, 22912)]],
+            &[(6, 10, 0, 22912)],
             &[
                 &[(0, 1, 0, 5276)],
                 &[(2, 4, 0, 25881)],
@@ -223,7 +206,7 @@ fn ends_with(
     let c = poly(alloc, field, starts[1])?;
     let row = match found(alloc, w, &t, &c, Poly::zero(alloc), true)? {
         Some(Remainders::Common(_rows, zero)) => Some(zero),
-        Some(Remainders::Coprime(mut rows)) => rows.rows.take_last(),
+        Some(Remainders::Coprime(rows)) => Some(rows.last),
         _ => None,
     };
     match row {

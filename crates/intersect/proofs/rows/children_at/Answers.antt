@@ -3,12 +3,8 @@ use Rattle.std.proofs.Common.{sym, ap, ◌∙◌, subst}
 use Rattle.mono_words.specs.declared.mono.TheConstants.{VARS}
 use Rattle.zero_sets.specs.ZeroSets.{IsTriangular, member_in, members_below}
 use Rattle.zero_sets.specs.Tasks.{Task}
-use Rattle.division_rules.specs.Rows.{plain, plains}
-use Rattle.division_rules.specs.RemainderRowsWithin.{remainder_rows_within}
-use Rattle.pseudo_division.specs.FieldOperations.{operations}
 use Rattle.chains.proofs.MemberSteps.{main_variable_small}
 use Rattle.sparse_poly.proofs.SortedTerms.{IfOk-implied}
-use Rattle.regular_gcd.proofs.RowLeads.{outcome_leads}
 use Rattle.intersect.proofs.RowChildren.{member_kids, member_canonical, lower_canonical, rows_start}
 use Rattle.intersect.proofs.rows.children_at.Goals as goal
 
@@ -29,9 +25,6 @@ pub remainder_rows-requires-clause-start : goal.remainder_rows-requires-clause-s
 remainder_rows-requires-clause-start c =
     let chain = ap (λ (t : Task). t.chain) c.left.view_is in
     rows_start c.args.w.now.field c.args.w.now.width c.args.v c.args.r c.args.left c.facts.ensures.prime c.requires.over (subst IsTriangular chain c.facts-2.ensures.triangular) c.requires.head c.requires.reduced c.requires.variable c.in-Some.t.now (sym (c.in-Some.ensures ∙ ap (member_in c.args.v) chain)) c.in_ok-below-in-Some.below (c.in_ok-below-in-Some.ensures ∙ ap (members_below c.args.v) chain)
-
-pub children_by-requires-clause-over : goal.children_by-requires-clause-over
-children_by-requires-clause-over c = outcome_leads c.args.w.now.field c.args.v (plain c.in-Some.t.now) (plain c.args.r) (remainder_rows_within (operations c.args.w.now.field) c.args.w.now.width c.args.v (plains c.in_ok-below-in-Some.below) (plain c.in-Some.t.now) (plain c.args.r)) c.in_ok-remainders-in-Some.remainders c.in_ok-remainders-in-Some.ensures.value c.in_ok-remainders-in-Some.ensures.over
 
 pub returns-in_ok-remainders-in-Some : goal.returns-in_ok-remainders-in-Some
 returns-in_ok-remainders-in-Some c =

@@ -10,13 +10,13 @@ use Rattle.regular_gcd.proofs.cases.lead_cases.Goals as goal
 use Rattle.regular_gcd.proofs.cases.lead_cases.Goals.{then-branch+in_ok-push, else-branch}
 
 pub is_new-requires-clause-over : goal.is_new-requires-clause-over
-is_new-requires-clause-over c = IsPolynomial-at c.args.f VARS c.args.rows.now.leads 0 c.at.result.now c.requires.over c.at.ensures
+is_new-requires-clause-over c = IsPolynomial-at c.args.f VARS c.args.rows.now.leads 0 c.at.result.now c.requires.leads.over c.at.ensures
 
 pub is_new-requires-clause-some : goal.is_new-requires-clause-some
 is_new-requires-clause-some c = nonzero_at c.args.rows.now.leads 0 c.at.result.now c.requires.leads.nonzero c.at.ensures
 
 pub is_new-requires-in-loop-i-clause-over : goal.is_new-requires-in-loop-i-clause-over
-is_new-requires-in-loop-i-clause-over c = IsPolynomial-at c.args.f VARS c.args.rows.now.leads c.loop-i.i c.at-in-loop-i.result.now c.requires.over c.at-in-loop-i.ensures
+is_new-requires-in-loop-i-clause-over c = IsPolynomial-at c.args.f VARS c.args.rows.now.leads c.loop-i.i c.at-in-loop-i.result.now c.requires.leads.over c.at-in-loop-i.ensures
 
 pub is_new-requires-in-loop-i-clause-some : goal.is_new-requires-in-loop-i-clause-some
 is_new-requires-in-loop-i-clause-some c = nonzero_at c.args.rows.now.leads c.loop-i.i c.at-in-loop-i.result.now c.requires.leads.nonzero c.at-in-loop-i.ensures

@@ -5,10 +5,11 @@ use Rattle.polynomials.specs.Polynomials.{Polynomial}
 use Rattle.polynomials.specs.Views.{degree_in}
 use Rattle.zero_sets.specs.ZeroSets.{member_in}
 use Rattle.row_laws.specs.Words.{StartRemainderRows}
+use Rattle.subresultants.specs.Ends.{ends_of}
 use Rattle.subresultants.specs.Outcomes.{remainders_of}
 use Rattle.sparse_poly.proofs.SortedTerms.{IfOk-implied}
 use Rattle.certificates.proofs.Members.{lower_canonical}
-use Rattle.regularise.proofs.Identities.{turn_variable, absent_kept, free_kept, turn_canonical, turn_room, turn_starts, turn_counts, turn_leads, made_step, further_identity}
+use Rattle.regularise.proofs.Identities.{turn_variable, absent_kept, free_kept, turn_canonical, turn_room, turn_starts, turn_counts, made_step, further_identity}
 use Rattle.regularise.proofs.turn.turn.Goals as goal
 
 pub degree_in-requires : goal.degree_in-requires
@@ -42,19 +43,14 @@ turn_by-requires-clause-room c = turn_room c.args.w.now.field c.args.u c.args.ch
 pub turn_by-requires-clause-counts : goal.turn_by-requires-clause-counts
 turn_by-requires-clause-counts c =
     let occurs : 1 ≤ degree_in c.args.u c.args.sofar.row.first = let d = c.degree_in.ensures ∙ ap (degree_in c.args.u) c.first-f.ensures in let some = c.if-degree_in-eq0.false in omega arith in
-    turn_counts c.args.w.now.field c.args.u c.args.chain.now c.args.sofar.row c.requires c.in-Some.t.now (sym c.in-Some.ensures) occurs c.args.w.now.width c.count.result c.in_ok-below-in-Some.below c.count.ensures c.in_ok-below-in-Some.ensures c.in_ok-remainders-in-Some.remainders (c.in_ok-remainders-in-Some.ensures.value ∙ ap (λ (f : Polynomial). remainders_of c.args.w.now.field c.args.w.now.width c.args.u true c.in-Some.t.now f c.in_ok-below-in-Some.below) c.first-f.ensures)
-
-pub turn_by-requires-clause-over : goal.turn_by-requires-clause-over
-turn_by-requires-clause-over c =
-    let occurs : 1 ≤ degree_in c.args.u c.args.sofar.row.first = let d = c.degree_in.ensures ∙ ap (degree_in c.args.u) c.first-f.ensures in let some = c.if-degree_in-eq0.false in omega arith in
-    turn_leads c.args.w.now.field c.args.u c.args.chain.now c.args.sofar.row c.requires c.in-Some.t.now (sym c.in-Some.ensures) occurs c.args.w.now.width c.count.result c.in_ok-below-in-Some.below c.count.ensures c.in_ok-below-in-Some.ensures c.in_ok-remainders-in-Some.remainders (c.in_ok-remainders-in-Some.ensures.value ∙ ap (λ (f : Polynomial). remainders_of c.args.w.now.field c.args.w.now.width c.args.u true c.in-Some.t.now f c.in_ok-below-in-Some.below) c.first-f.ensures) c.in_ok-remainders-in-Some.ensures.over
+    turn_counts c.args.w.now.field c.args.u c.args.chain.now c.args.sofar.row c.requires c.in-Some.t.now (sym c.in-Some.ensures) occurs c.args.w.now.width c.count.result c.in_ok-below-in-Some.below c.count.ensures c.in_ok-below-in-Some.ensures c.in_ok-remainders-in-Some.remainders (c.in_ok-remainders-in-Some.ensures.value ∙ ap (λ (f : Polynomial). ends_of (remainders_of c.args.w.now.field c.args.w.now.width c.args.u true c.in-Some.t.now f c.in_ok-below-in-Some.below)) c.first-f.ensures)
 
 pub returns-in_ok-remainders-in-Some-clause-step : goal.returns-in_ok-remainders-in-Some-clause-step
 returns-in_ok-remainders-in-Some-clause-step c =
     let occurs : 1 ≤ degree_in c.args.u c.args.sofar.row.first = let d = c.degree_in.ensures ∙ ap (degree_in c.args.u) c.first-f.ensures in let some = c.if-degree_in-eq0.false in omega arith in
-    IfOk-implied _ _ c.turn_by.result (λ r each. made_step c.args.w.now.field c.args.w.now.width c.args.u c.args.chain.now c.args.nonzero.now c.args.sofar c.requires c.in-Some.t.now (sym c.in-Some.ensures) occurs c.in_ok-below-in-Some.below c.in_ok-remainders-in-Some.remainders r c.in_ok-below-in-Some.ensures (c.in_ok-remainders-in-Some.ensures.value ∙ ap (λ (f : Polynomial). remainders_of c.args.w.now.field c.args.w.now.width c.args.u true c.in-Some.t.now f c.in_ok-below-in-Some.below) c.first-f.ensures) each) c.turn_by.ensures
+    IfOk-implied _ _ c.turn_by.result (λ r each. made_step c.args.w.now.field c.args.w.now.width c.args.u c.args.chain.now c.args.nonzero.now c.args.sofar c.requires c.in-Some.t.now (sym c.in-Some.ensures) occurs c.in_ok-below-in-Some.below c.in_ok-remainders-in-Some.remainders r c.in_ok-below-in-Some.ensures (c.in_ok-remainders-in-Some.ensures.value ∙ ap (λ (f : Polynomial). ends_of (remainders_of c.args.w.now.field c.args.w.now.width c.args.u true c.in-Some.t.now f c.in_ok-below-in-Some.below)) c.first-f.ensures) each) c.turn_by.ensures
 
 pub returns-in_ok-remainders-in-Some-clause-identity : goal.returns-in_ok-remainders-in-Some-clause-identity
 returns-in_ok-remainders-in-Some-clause-identity c =
     let occurs : 1 ≤ degree_in c.args.u c.args.sofar.row.first = let d = c.degree_in.ensures ∙ ap (degree_in c.args.u) c.first-f.ensures in let some = c.if-degree_in-eq0.false in omega arith in
-    IfOk-implied _ _ c.turn_by.result (λ r each. further_identity c.args.w.now.field c.args.w.now.width c.args.u c.args.chain.now c.args.nonzero.now c.args.sofar c.requires c.in-Some.t.now (sym c.in-Some.ensures) occurs r (made_step c.args.w.now.field c.args.w.now.width c.args.u c.args.chain.now c.args.nonzero.now c.args.sofar c.requires c.in-Some.t.now (sym c.in-Some.ensures) occurs c.in_ok-below-in-Some.below c.in_ok-remainders-in-Some.remainders r c.in_ok-below-in-Some.ensures (c.in_ok-remainders-in-Some.ensures.value ∙ ap (λ (f : Polynomial). remainders_of c.args.w.now.field c.args.w.now.width c.args.u true c.in-Some.t.now f c.in_ok-below-in-Some.below) c.first-f.ensures) each)) c.turn_by.ensures
+    IfOk-implied _ _ c.turn_by.result (λ r each. further_identity c.args.w.now.field c.args.w.now.width c.args.u c.args.chain.now c.args.nonzero.now c.args.sofar c.requires c.in-Some.t.now (sym c.in-Some.ensures) occurs r (made_step c.args.w.now.field c.args.w.now.width c.args.u c.args.chain.now c.args.nonzero.now c.args.sofar c.requires c.in-Some.t.now (sym c.in-Some.ensures) occurs c.in_ok-below-in-Some.below c.in_ok-remainders-in-Some.remainders r c.in_ok-below-in-Some.ensures (c.in_ok-remainders-in-Some.ensures.value ∙ ap (λ (f : Polynomial). ends_of (remainders_of c.args.w.now.field c.args.w.now.width c.args.u true c.in-Some.t.now f c.in_ok-below-in-Some.below)) c.first-f.ensures) each)) c.turn_by.ensures
