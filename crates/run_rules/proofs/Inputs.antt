@@ -7,7 +7,7 @@ use Rattle.tri_io.specs.Transfers.{ReadsAll}
 use Rattle.tri_io.specs.declared.input.Input.{Input}
 use Rattle.tri_io.specs.declared.input.Input.TheVariants.{Whole, TooLong}
 use Rattle.tri_io.specs.declared.input.ReadFail.{ReadFail}
-use Rattle.run_rules.specs.Programs.{Ending, Program, IsExpected, IsReader, IsNoCommand, IsInput, ending_of, ending_of_input, most_bytes}
+use Rattle.run_rules.specs.Programs.{Ending, Program, IsExpected, IsReader, IsInput, ending_of, ending_of_input, most_bytes}
 use Rattle.run_rules.specs.Runs.{Leaves}
 
 -- few bytes pass the test, and more don't
@@ -65,6 +65,11 @@ module _ {O S : Type 0} (program : Program O S) where
     input_expected (Some bytes) (Some left) (Whole read) ending h e = told_expected (Some bytes) read.items ending (whole_bytes bytes read.items left h.1 h.2) (e ∙ few_ending options read.items h.0)
     input_expected (Some bytes) (Some left) TooLong ending h e = told_expected (Some bytes) bytes ending refl (e ∙ many_ending options bytes (longer bytes h.0 left h.1 h.2))
 
+  -- the ending of a command that reads no input is expected
+  pub unread_expected : (words : List (List ℕ)) (options : O) (told : Option (List ℕ)) (ending : Ending S) → program.IsCommand words options → program.reads options ≡ false → ending ≡ program.ending options [] → IsExpected program words told ending
+  unread_expected words options told ending command unread same =
+      inl (record { options = options; command = command; bytes = []; input = subst (λ b. IsInput b told []) (sym unread) refl; same = same ∙ few_ending options [] (omega arith) })
+
   module _ (words : List (List ℕ)) where
     -- a command that read its input leaves what stands behind it, whatever its status is
     read_leaves : (bytes left : List ℕ) (status : S) → IsReader program words → left ≡ drop (most_bytes + 1) bytes → Leaves program words bytes (Some left) status
@@ -95,12 +100,12 @@ module _ {O S : Type 0} (program : Program O S) where
       ends = (length h.0, omega arith, ap Some (behind bytes h.0 left h.2));
     }
 
-    -- a run whose words are no command leaves all
-    pub nothing_read_leaves : (told left : Option (List ℕ)) (status : S) → IsNoCommand program words → left ≡ told → IfSome told (λ bytes. Leaves program words bytes left status)
+    -- a run whose words are no command that reads an input leaves all
+    pub nothing_read_leaves : (told left : Option (List ℕ)) (status : S) → (IsReader program words → ⊥) → left ≡ told → IfSome told (λ bytes. Leaves program words bytes left status)
     nothing_read_leaves None left status none e = tt
     nothing_read_leaves (Some bytes) left status none e = record {
       unread = λ is_none. e;
-      read = λ reader no_read_fault memory. absurd (none reader.0 reader.1);
+      read = λ reader no_read_fault memory. absurd (none reader);
       ends = (0, lit≤ tt, e);
     }
 

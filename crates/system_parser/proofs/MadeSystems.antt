@@ -4,7 +4,7 @@ use Rattle.std.specs.List.{AllByRecursion, IsDistinct, range_with_len}
 use Rattle.std.proofs.lemmas.List.Elements.{All-from_recursion, All-contains}
 use Rattle.std.proofs.lemmas.List.FromFn.{map-range_with_len_more}
 use Rattle.mono_words.specs.declared.mono.TheConstants.{VARS}
-use Rattle.polynomials.specs.Polynomials.{Polynomial, ArePolynomials, IsPolynomial, constant_of, product_of, sum_of, variable_power}
+use Rattle.polynomials.specs.Polynomials.{Polynomial, ArePolynomials, IsPolynomial, constant_of, sum_of, variable_power}
 use Rattle.polynomials.specs.Views.{degree_in, IsFreeOf}
 use Rattle.polynomials.proofs.ConstantLemmas.{constant_of_free}
 use Rattle.polynomials.proofs.DegreesOfProducts.{product_is_free, sum_is_free}

@@ -1,6 +1,7 @@
-mod Widths
+mod Ranges
 mod Statuses
 mod Answered
+mod Made
 mod Solved
 mod Systems
 mod Printable

@@ -33,7 +33,7 @@ answered_solved words told old new ending h appends =
     record {
       options = options;
       system = h.system;
-      reads = h.reads;
+      of_command = h.of_command;
       written = subst (λ e. Appends old new e.text) h.same appends;
       solves = record {
         lawful = answers_are_lawful VARS k options.width options.steps system h.solvable;

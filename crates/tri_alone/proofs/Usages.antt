@@ -1,19 +1,23 @@
--- A run whose words are no command.
+-- A run whose words are no command, or none that reads.
 use Rattle.std.proofs.Common.{◌≡◌, ℕ, List, [], ◌∷◌, Option, Result, Ok, Err, IfOk, IfSome, inl, inr, refl, sym, ◌∙◌, ap, lit≤}
 use Rattle.std.specs.Prelude.{Contains, OnOk, OnErr}
 use Rattle.mono_words.specs.declared.mono.TheConstants.{VARS}
 use Rattle.report_text.specs.declared.status.Status.{Status}
 use Rattle.report_text.specs.declared.status.Status.TheVariants.{Usage, ReadFault, WriteFault, OutOfMemory}
-use Rattle.run_rules.specs.Programs.{Ending, IsExpected, IsNoCommand}
+use Rattle.run_rules.specs.Programs.{Ending, IsExpected, IsNoCommand, IsReader}
 use Rattle.run_rules.specs.Runs.{Leaves, Writes}
 use Rattle.run_rules.proofs.Inputs.{nothing_read_leaves}
 use Rattle.tri_alone.specs.Solver.{alone}
 use Rattle.tri_alone.specs.Solved.{IsAnswered, IsOfSystem}
 use Rattle.tri_alone.proofs.Statuses.{not_usage}
 
+-- words that are no command are none that reads
+pub no_reader : (words : List (List ℕ)) → IsNoCommand alone words → IsReader alone words → ⊥
+no_reader words none reader = none reader.0 reader.1
+
 -- nothing is read
-all_left : (words : List (List ℕ)) (told : Option (List ℕ)) → IsNoCommand alone words → (status : Status) → IfSome told (λ bytes. Leaves alone words bytes told status)
-all_left words told none status = nothing_read_leaves alone words told told status none refl
+all_left : (words : List (List ℕ)) (told : Option (List ℕ)) → (IsReader alone words → ⊥) → (status : Status) → IfSome told (λ bytes. Leaves alone words bytes told status)
+all_left words told unread status = nothing_read_leaves alone words told told status unread refl
 
 module _ {E : Type 0} (words : List (List ℕ)) where
   pub usage_expected : (told : Option (List ℕ)) (made : Result (Ending Status) E) → IsNoCommand alone words → IfOk made (λ e. e ≡ alone.usage) → IfOk made (λ e. IsExpected alone words told e)
@@ -32,13 +36,13 @@ module _ {E : Type 0} (words : List (List ℕ)) where
   usage_is (Ok ending) h = λ none. ap (λ e. e.status) h
   usage_is (Err e) h = tt
 
-  pub usage_leaves : (told : Option (List ℕ)) (made : Result (Ending Status) E) → IsNoCommand alone words → OnOk made ((status : Status) → IfSome told (λ bytes. Leaves alone words bytes told status))
-  usage_leaves told (Ok ending) none = all_left words told none
-  usage_leaves told (Err e) none = tt
+  pub unread_leaves_all : (told : Option (List ℕ)) (made : Result (Ending Status) E) → (IsReader alone words → ⊥) → OnOk made ((status : Status) → IfSome told (λ bytes. Leaves alone words bytes told status))
+  unread_leaves_all told (Ok ending) unread = all_left words told unread
+  unread_leaves_all told (Err e) unread = tt
 
-  pub usage_leaves_fault : (told : Option (List ℕ)) (made : Result (Ending Status) E) → IsNoCommand alone words → OnErr made ((status : Status) → Contains (ReadFault ∷ OutOfMemory ∷ []) status → IfSome told (λ bytes. Leaves alone words bytes told status))
-  usage_leaves_fault told (Ok ending) none = tt
-  usage_leaves_fault told (Err e) none = λ status h. all_left words told none status
+  pub unread_leaves_all_fault : (told : Option (List ℕ)) (made : Result (Ending Status) E) → (IsReader alone words → ⊥) → OnErr made ((status : Status) → Contains (ReadFault ∷ OutOfMemory ∷ []) status → IfSome told (λ bytes. Leaves alone words bytes told status))
+  unread_leaves_all_fault told (Ok ending) unread = tt
+  unread_leaves_all_fault told (Err e) unread = λ status h. all_left words told unread status
 
 -- a run that ends with the usage line had that to write
 pub written_usage : (words : List (List ℕ)) (K : Type 0) (old new : Option (List ℕ)) (ending : Ending Status) (status : Status) → (ending.status ≡ Usage → IsNoCommand alone words) → Writes alone ending K old new status → status ≡ Usage → IsNoCommand alone words

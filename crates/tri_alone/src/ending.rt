@@ -1,21 +1,22 @@
-ghost use Rattle.std.specs.Prelude.{◌≡◌, ◌≤◌, cond, false, length, IfOk};
+ghost use Rattle.std.specs.Prelude.{◌≡◌, ◌≤◌, cond, false, length, None, IfOk};
 ghost use Rattle.system_text.specs.Lines.{read_text};
 ghost use Rattle.system_text.specs.Laws.{IsSystem};
+ghost use Rattle.system_parser.specs.Made.{made_system};
 ghost use Rattle.system_parser.specs.Systems.{text_system_of};
 ghost use Rattle.case_tree.specs.Systems.{IsSolvable};
 ghost use Rattle.run_rules.specs.Programs.{ending_of_input};
 ghost use Rattle.tri_alone.specs.Solver.{alone, ending_of_reading, ending_of_system};
 ghost use Rattle.tri_alone.specs.Solvable.{FitsText, HasWidth, IsInputSolvable, IsReadingSolvable};
 
+use crate::walks::walk_cases;
 use case_tree::Cases;
 use mono_words::VARS;
 use report_text::{Status, print_refused, print_too_long};
-use solver_reports::walk;
 use sparse_poly::System;
 use split_paths::{Offer, Path};
 use std::alloc::{AllocError, Global};
 use std::marker::Model;
-use system_parser::{ParseFault, parse};
+use system_parser::{ParseFault, made, parse};
 use tri_io::{Command, Input};
 
 /// A status, and the text that is written with it.
@@ -42,6 +43,7 @@ pub fn ending_of_input(
     input: &Input,
 ) -> Result<Ending, AllocError>
     requires width { HasWidth command.now }
+    requires reads { command.now.made ≡ None }
     requires fits { FitsText input.now }
     ensures ending { IfOk result (λ e. e ≡ ending_of_input alone command.now input.now) }
     ensures solvable { IfOk result (λ e. IsInputSolvable VARS input.now) }
@@ -53,6 +55,18 @@ pub fn ending_of_input(
             text: print_too_long(alloc)?,
         }),
     }
+}
+
+/// How it ends on the system that is made from a number.
+pub fn ending_of_made(alloc: Global, command: &Command, k: u32) -> Result<Ending, AllocError>
+    requires width { HasWidth command.now }
+    requires few { k ≤ 9_000 }
+    ensures ending { IfOk result (λ e.
+        e ≡ ending_of_system VARS command.now (made_system VARS k)) }
+    ensures solvable { IfOk result (λ e. IsSolvable (made_system VARS k)) }
+{
+    let system = made(alloc, k)?;
+    ending_of_system(alloc, command, system)
 }
 
 /// How it ends on these bytes.
@@ -87,8 +101,7 @@ fn ending_of_system(alloc: Global, command: &Command, system: System) -> Result<
         steps: command.steps,
         task: cases.root(alloc)?,
     };
-    let System { names, nonzero, .. } = cases.system();
-    let walked = walk(alloc, names, nonzero, &cases, root)?;
+    let walked = walk_cases(alloc, command.made, &cases, root)?;
     Ok(Ending {
         status: status_of(walked.stopped),
         text: walked.text,

@@ -4,6 +4,7 @@
 mod ending;
 mod laws;
 mod run;
+mod walks;
 
 pub use laws::runs_have_one_ending;
 pub use report_text::Status;

@@ -1,4 +1,4 @@
-ghost use Rattle.std.specs.Prelude.{◌≡◌, ◌≢◌, [], ◌∷◌, false, map, Contains, IfOk, IfSome, OnOk, OnErr, IsErrOf, string_bytes};
+ghost use Rattle.std.specs.Prelude.{◌≡◌, ◌≢◌, ℕ, List, [], ◌∷◌, false, map, Option, Some, None, Contains, IfOk, IfSome, OnOk, OnErr, IsErrOf, string_bytes};
 ghost use Rattle.tri_io.specs.Commands.{IsCommand};
 ghost use Rattle.tri_io.specs.Faults.{Rose};
 ghost use Rattle.run_rules.specs.Programs.{IsExpected, IsNoCommand, IsReader};
@@ -6,7 +6,7 @@ ghost use Rattle.run_rules.specs.Runs.{Ends, Leaves, Writes};
 ghost use Rattle.tri_alone.specs.Solver.{alone};
 ghost use Rattle.tri_alone.specs.Solved.{IsAnswered, IsOfSystem, IsSolved};
 
-use crate::ending::{Ending, ending_of_input};
+use crate::ending::{Ending, ending_of_input, ending_of_made};
 use mono_words::VARS;
 use report_text::{Status, print_usage};
 use std::alloc::{AllocError, Global};
@@ -15,7 +15,8 @@ use tri_io::{Command, ReadFail, Sink, Source, WordsFault, command_of, read_all, 
 /// The greatest number of bytes that a system may have.
 pub const MOST_BYTES: usize = 1_048_576;
 
-/// Reads a system from the source and writes the report of its answer to the sink.
+/// Reads a system from the source and writes the report of its answer to the sink; or makes one, of
+/// which the source isn't read, and writes the summary of its answer.
 pub fn run_alone<S: Source, K: Sink>(
     alloc: Global,
     words: &[String],
@@ -30,14 +31,15 @@ pub fn run_alone<S: Source, K: Sink>(
     ensures leaves { IfSome (S.left source.old) (λ bytes.
         Leaves alone (map string_bytes words.now) bytes (S.left source.new) result) }
 
-    // The chains that are printed are triangular sets. Their points are solutions of the system that
-    // was read, and all of them where no branch passed a limit.
+    // The chains that are printed or counted are triangular sets. Their points are solutions of the
+    // system that was read or made, and all of them where no branch passed a limit.
     ensures solved { IsOfSystem result → IsSolved VARS (map string_bytes words.now)
         (S.left source.old) (K.taken sink.old) (K.taken sink.new) result }
 
-    // Where the words are no command, nothing is read.
+    // Where the words are no command that reads a system, nothing is read.
     ensures usage { result ≡ Status.Usage → IsNoCommand alone (map string_bytes words.now) }
-    ensures unread { IsNoCommand alone (map string_bytes words.now) → source.new ≡ source.old }
+    ensures unread { (IsReader alone (map string_bytes words.now) → ⊥)
+        → source.new ≡ source.old }
     ensures words { IsNoCommand alone (map string_bytes words.now)
         → Contains (Status.Usage ∷ Status.WriteFault ∷ Status.OutOfMemory ∷ []) result }
 
@@ -67,7 +69,7 @@ pub enum Silence {
     OutOfMemory,
 }
 
-/// What is to be written, by the words and by what is read of the source.
+/// What is to be written, by the words and by what is read of the source, or made.
 fn prepared<S: Source>(alloc: Global, words: &[String], source: &mut S) -> Result<Ending, Silence>
     ensures expected { IfOk result (λ e.
         IsExpected alone (map string_bytes words.now) (S.left source.old) e) }
@@ -77,7 +79,8 @@ fn prepared<S: Source>(alloc: Global, words: &[String], source: &mut S) -> Resul
         e.status ≡ Status.Usage → IsNoCommand alone (map string_bytes words.now)) }
     ensures words { IfOk result (λ e.
         IsNoCommand alone (map string_bytes words.now) → e.status ≡ Status.Usage) }
-    ensures unread { IsNoCommand alone (map string_bytes words.now) → source.new ≡ source.old }
+    ensures unread { (IsReader alone (map string_bytes words.now) → ⊥)
+        → source.new ≡ source.old }
 
     // What is left of the input, with any status that the text ends with, or that stands for none.
     ensures leaves { OnOk result ((status : Status) → IfSome (S.left source.old) (λ bytes.
@@ -95,7 +98,10 @@ fn prepared<S: Source>(alloc: Global, words: &[String], source: &mut S) -> Resul
         → IsErrOf result Silence.ReadFault }
 {
     match command_of(alloc, words, false) {
-        Ok(command) => read_ending(alloc, words, &command, source),
+        Ok(command) => match command.made {
+            None => read_ending(alloc, words, &command, source),
+            Some(k) => made_ending(alloc, words, &command, k),
+        },
         Err(WordsFault::NotACommand) => usage(alloc),
         Err(WordsFault::Memory(_)) => Err(Silence::OutOfMemory),
     }
@@ -122,7 +128,8 @@ fn read_ending<S: Source>(
     command: &Command,
     source: &mut S,
 ) -> Result<Ending, Silence>
-    requires { IsCommand false (map string_bytes words.now) command.now }
+    requires command { IsCommand false (map string_bytes words.now) command.now }
+    requires reads { command.now.made ≡ None }
     ensures expected { IfOk result (λ e.
         IsExpected alone (map string_bytes words.now) (S.left source.old) e) }
     ensures answered { IfOk result (λ e. IsOfSystem e.status
@@ -145,6 +152,30 @@ fn read_ending<S: Source>(
         Err(ReadFail::Memory(_)) => return Err(Silence::OutOfMemory),
     };
     match ending_of_input(alloc, command, &input) {
+        Ok(ending) => Ok(ending),
+        Err(AllocError) => Err(Silence::OutOfMemory),
+    }
+}
+
+/// What is to be written of the system that is made from this number, where the words are this
+/// command.
+fn made_ending(
+    alloc: Global,
+    words: &[String],
+    command: &Command,
+    k: u32,
+) -> Result<Ending, Silence>
+    requires command { IsCommand false (map string_bytes words.now) command.now }
+    requires made { command.now.made ≡ Some k }
+    ensures expected { IfOk result (λ e. (told : Option (List ℕ))
+        → IsExpected alone (map string_bytes words.now) told e) }
+    ensures answered { IfOk result (λ e. (told : Option (List ℕ)) → IsOfSystem e.status
+        → IsAnswered VARS (map string_bytes words.now) told e) }
+    ensures usage { IfOk result (λ e. e.status ≢ Status.Usage) }
+    ensures unread { IsReader alone (map string_bytes words.now) → ⊥ }
+    ensures quiet { OnErr result (IsErrOf result Silence.OutOfMemory) }
+{
+    match ending_of_made(alloc, command, k) {
         Ok(ending) => Ok(ending),
         Err(AllocError) => Err(Silence::OutOfMemory),
     }

@@ -237,6 +237,76 @@ fn options_limit_a_run(rt: HostRuntime) -> Result<(), Fail> {
     Ok(())
 }
 
+/// Runs with these words, over a source that fails where it is read.
+fn check_made(
+    rt: &impl Abort,
+    alloc: Global,
+    line: &str,
+    status: Status,
+    written: &[u8],
+) -> Result<(), Fail> {
+    let words = words_of(alloc, line)?;
+    let mut source = MemSource::new(EXAMPLE.to_vec(alloc)?, 4096, vec![in alloc; 1; 1]?);
+    let mut sink = MemSink::new(alloc, ROOM, 4096, Vec::new(alloc))?;
+    assert_eq!(rt;
+        run_alone(alloc, &words, &mut source, &mut sink),
+        status,
+        "of {line}"
+    );
+    assert_eq!(rt; sink.bytes(), written, "of {line}");
+    Ok(())
+}
+
+#[test]
+fn a_made_system_has_a_summary(rt: HostRuntime) -> Result<(), Fail> {
+    for (line, status, written) in [
+        (
+            "--made 1",
+            Status::Chains,
+            b"made 1\nchains 2\npolys 2\n".as_slice(),
+        ),
+        ("--made 2", Status::Chains, b"made 2\nchains 3\npolys 5\n"),
+        ("--made 3", Status::Chains, b"made 3\nchains 5\npolys 12\n"),
+        (
+            "--made 7",
+            Status::Chains,
+            b"made 7\nchains 34\npolys 180\n",
+        ),
+        (
+            "--made 7 --steps 1",
+            Status::Stopped,
+            b"made 7\nchains 0\npolys 0\nstopped 1 steps\n",
+        ),
+        (
+            "--made=7 --steps=8",
+            Status::Stopped,
+            b"made 7\nchains 1\npolys 4\nstopped 1.1.1.2 steps\n",
+        ),
+        (
+            "--made 0",
+            Status::Usage,
+            b"usage: triangularize_alone [--steps S] [--width W] [--made K]\n",
+        ),
+        (
+            "--made 9001",
+            Status::Usage,
+            b"usage: triangularize_alone [--steps S] [--width W] [--made K]\n",
+        ),
+    ] {
+        check_made(&rt, rt.alloc(), line, status, written)?;
+    }
+    Ok(())
+}
+
+#[test]
+fn a_large_made_system_has_the_same_summary_again(rt: HostRuntime) -> Result<(), Fail> {
+    let written = b"made 700\nchains 2\npolys 15\n";
+    for _ in 0..2 {
+        check_made(&rt, rt.alloc(), "--made 700", Status::Chains, written)?;
+    }
+    Ok(())
+}
+
 /// A system of `count` lines `x + 1`.
 fn lines(alloc: Global, count: u32) -> Result<Vec<u8>, AllocError> {
     let mut text = b"prime 5\norder x\n".to_vec(alloc)?;

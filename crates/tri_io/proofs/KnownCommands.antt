@@ -7,7 +7,7 @@ use Rattle.std.specs.Str.Parse.{digits_value}
 use Rattle.std.specs.Str.{bytes_eq}
 use Rattle.std.proofs.lemmas.Bool.{ltb-true}
 use Rattle.std.proofs.lemmas.List.Sums.{AllPass-from_list_all}
-use Rattle.tri_io.specs.Commands.{Rule, Item, AreItems, Begins, CommandsAreKnown, Falls, IsNumberOf, IsOfRule, rules_of, steps_rule, value_of, width_rule, workers_rule}
+use Rattle.tri_io.specs.Commands.{Rule, Item, AreItems, Begins, CommandsAreKnown, Falls, IsNumberOf, IsOfRule, made_rule, rules_of, steps_rule, value_of, width_rule, workers_rule}
 use Rattle.tri_io.specs.Texts.{AreRules, AreTexts, HasNoEquals, IsPlainName, rule_names, text_of}
 use Rattle.tri_io.proofs.Items.{begins_same}
 use Rattle.tri_io.proofs.Matches.{all_map}
@@ -85,15 +85,18 @@ steps_plain = (λ e. cc, plain_letters (codes "steps") refl)
 width_plain : IsPlainName width_rule.name
 width_plain = (λ e. cc, plain_letters (codes "width") refl)
 
+made_plain : IsPlainName made_rule.name
+made_plain = (λ e. cc, plain_letters (codes "made") refl)
+
 pub rules_are : (with_workers : Bool) → AreRules (rules_of with_workers)
 unfolding IsDistinct
-rules_are true = record { plain = (workers_plain, (steps_plain, (width_plain, tt))); once = ((refl, (refl, tt)), ((refl, tt), (tt, tt))) }
-rules_are false = record { plain = (steps_plain, (width_plain, tt)); once = ((refl, tt), (tt, tt)) }
+rules_are true = record { plain = (workers_plain, (steps_plain, (width_plain, (made_plain, tt)))); once = ((refl, (refl, (refl, tt))), ((refl, (refl, tt)), ((refl, tt), (tt, tt)))) }
+rules_are false = record { plain = (steps_plain, (width_plain, (made_plain, tt))); once = ((refl, (refl, tt)), ((refl, tt), (tt, tt))) }
 
 -- an item of the program with a single worker says nothing of workers
 not_workers : (item : Item) → Any (IsOfRule item) (rules_of false) → bytes_eq item.name workers_rule.name ≡ false
 not_workers item some =
-    from_any {P = λ rule. bytes_eq rule.name workers_rule.name ≡ false} (bytes_eq item.name workers_rule.name ≡ false) (rules_of false) (refl, (refl, tt)) some
+    from_any {P = λ rule. bytes_eq rule.name workers_rule.name ≡ false} (bytes_eq item.name workers_rule.name ≡ false) (rules_of false) (refl, (refl, (refl, tt))) some
     (λ rule other h. ap (λ name. bytes_eq name workers_rule.name) h.named ∙ other)
 
 -- so that there are as many as usual
@@ -118,4 +121,5 @@ commands_known with_workers words a b x y =
     let workers = found_same a.workers b.workers (x.workers ∙ (ap (value_of workers_rule) same ∙ sym y.workers)) in
     let steps = found_same a.steps b.steps (x.steps ∙ (ap (value_of steps_rule) same ∙ sym y.steps)) in
     let width = found_same a.width b.width (x.width ∙ (ap (value_of width_rule) same ∙ sym y.width)) in
-    λ i. record { workers = workers i; steps = steps i; width = width i }
+    let made = x.made ∙ (ap (value_of made_rule) same ∙ sym y.made) in
+    λ i. record { workers = workers i; steps = steps i; width = width i; made = made i }

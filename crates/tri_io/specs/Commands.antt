@@ -1,6 +1,6 @@
 -- The words of a command line: options with numbers, in any order, each at most once.
 use Rattle.std.specs.Prelude.{◌≡◌, ◌≢◌, ◌⊎◌, ℕ, ◌≤◌, Bool, true, false, List, [], ◌∷◌, ◌++◌, map}
-use Rattle.std.specs.Prelude.{Option, Some, option_map, get_or, codes}
+use Rattle.std.specs.Prelude.{Option, Some, None, option_map, get_or, codes}
 use Rattle.std.specs.List.{AllByRecursion, Any, IsDistinct, find}
 use Rattle.std.specs.Option.{option_or}
 use Rattle.std.specs.Str.{bytes_eq}
@@ -79,16 +79,21 @@ steps_rule = record { name = codes "steps"; least = 1; most = 1000000; default =
 abbrev pub width_rule : Rule
 width_rule = record { name = codes "width"; least = 1; most = 1000000; default = Some 100000 }
 
+-- the number that a system is made from; where it isn't given, none is made
+abbrev pub made_rule : Rule
+made_rule = record { name = codes "made"; least = 1; most = 9000; default = None }
+
 -- the options of the program with workers or without
 abbrev pub rules_of : Bool → List Rule
-rules_of true = workers_rule ∷ steps_rule ∷ width_rule ∷ []
-rules_of false = steps_rule ∷ width_rule ∷ []
+rules_of true = workers_rule ∷ steps_rule ∷ width_rule ∷ made_rule ∷ []
+rules_of false = steps_rule ∷ width_rule ∷ made_rule ∷ []
 
 -- the numbers of a command line's options
 pub record Options : Type 0 where
   pub workers : ℕ
   pub steps : ℕ
   pub width : ℕ
+  pub made : Option ℕ
 
 -- the words are the command with these options
 pub record IsCommand (with_workers : Bool) (words : List (List ℕ)) (options : Options)
@@ -98,6 +103,7 @@ pub record IsCommand (with_workers : Bool) (words : List (List ℕ)) (options : 
   pub workers : Some options.workers ≡ value_of workers_rule items
   pub steps : Some options.steps ≡ value_of steps_rule items
   pub width : Some options.width ≡ value_of width_rule items
+  pub made : options.made ≡ value_of made_rule items
 
 -- no words are two commands
 abbrev pub CommandsAreKnown : Type 0

@@ -32,7 +32,15 @@ const WIDTH: NumberOption = NumberOption {
     default: Some(100_000),
 };
 
-/// The numbers of a command line's options, the default where an option isn't given.
+// The number that a system is made from, in place of one that is read.
+const MADE: NumberOption = NumberOption {
+    name: "made",
+    least: 1,
+    most: 9_000,
+    default: None,
+};
+
+/// The numbers of a command line's options, the default where an option isn't given and has one.
 #[derive(Debug, Drop)]
 pub struct Command {
     /// How many workers there are.
@@ -43,6 +51,9 @@ pub struct Command {
 
     /// The width that products have to fit.
     pub width: u32,
+
+    /// The number that the system is made from, where it isn't read.
+    pub made: Option<u32>,
 }
 
 impl Model for Command {
@@ -50,7 +61,12 @@ impl Model for Command {
 
     ghost Value = { Options };
 
-    ghost view = { λ c. record { workers = c.workers; steps = c.steps; width = c.width } };
+    ghost view = { λ c. record {
+      workers = c.workers;
+      steps = c.steps;
+      width = c.width;
+      made = c.made;
+    } };
 }
 
 /// The command that the words are, without the program's name.
@@ -67,22 +83,24 @@ pub fn command_of(
         → IsCommand with_workers (map string_bytes words.now) options → ⊥ }
 {
     if with_workers {
-        let numbers = numbers_of(alloc, &[WORKERS, STEPS, WIDTH], words)?;
+        let numbers = numbers_of(alloc, &[WORKERS, STEPS, WIDTH, MADE], words)?;
         match numbers.as_slice() {
-            [Some(workers), Some(steps), Some(width)] => Ok(Command {
+            [Some(workers), Some(steps), Some(width), made] => Ok(Command {
                 workers: *workers,
                 steps: *steps,
                 width: *width,
+                made: *made,
             }),
             _ => unreachable!(),
         }
     } else {
-        let numbers = numbers_of(alloc, &[STEPS, WIDTH], words)?;
+        let numbers = numbers_of(alloc, &[STEPS, WIDTH, MADE], words)?;
         match numbers.as_slice() {
-            [Some(steps), Some(width)] => Ok(Command {
+            [Some(steps), Some(width), made] => Ok(Command {
                 workers: USUAL_WORKERS,
                 steps: *steps,
                 width: *width,
+                made: *made,
             }),
             _ => unreachable!(),
         }
@@ -112,6 +130,14 @@ mod tests {
     fn values_of(alloc: Global, words: &[String], with_workers: bool) -> Option<(u32, u32, u32)> {
         match command_of(alloc, words, with_workers) {
             Ok(command) => Some((command.workers, command.steps, command.width)),
+            Err(_) => None,
+        }
+    }
+
+    // From which number the command makes a system, if it is a command.
+    fn made_of(alloc: Global, words: &[String], with_workers: bool) -> Option<Option<u32>> {
+        match command_of(alloc, words, with_workers) {
+            Ok(command) => Some(command.made),
             Err(_) => None,
         }
     }
@@ -153,6 +179,32 @@ mod tests {
         ] {
             let words = words_of(rt.alloc(), line)?;
             assert_eq!(rt; values_of(rt.alloc(), &words, true), values, "at {line}");
+        }
+        Ok(())
+    }
+
+    #[test]
+    fn a_system_is_made_from_a_number(rt: HostRuntime) -> Result<(), Fail> {
+        for (line, made) in [
+            ("", Some(None)),
+            ("--made 1", Some(Some(1))),
+            ("--made=9000", Some(Some(9_000))),
+            ("--steps 3 --made=7 --width 2", Some(Some(7))),
+            ("--made 0", None),
+            ("--made 9001", None),
+            ("--made 07", None),
+            ("--made", None),
+            ("--mad 7", None),
+            ("--made 7 --made 7", None),
+        ] {
+            let words = words_of(rt.alloc(), line)?;
+            for with_workers in [true, false] {
+                assert_eq!(rt;
+                    made_of(rt.alloc(), &words, with_workers),
+                    made,
+                    "at {line}"
+                );
+            }
         }
         Ok(())
     }
