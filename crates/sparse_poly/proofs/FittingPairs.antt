@@ -1,5 +1,5 @@
 -- Pairs of terms that fit, by places and by parts.
-use Rattle.std.proofs.Common.{◌≡◌, ◌≢◌, ◌↔◌, ◌<◌, ◌≤◌, ◌+◌, ◌*◌, ℕ, true, zero, suc, List, [], ◌∷◌, ◌++◌, length, get_or, subst, sym, ap, inl, inr, arith}
+use Rattle.std.proofs.Common.{◌≡◌, ◌≢◌, ◌↔◌, ◌<◌, ◌≤◌, ◌+◌, ◌*◌, ℕ, true, zero, suc, List, [], ◌∷◌, ◌++◌, length, get_or, drop, subst, sym, ap, inl, inr, arith}
 use Rattle.std.proofs.Math.Nat.{mul_comm}
 use Rattle.polynomials.specs.Monomials.{Monomial, exponent_of, ExponentsFit}
 use Rattle.polynomials.specs.Polynomials.{Term}
@@ -13,6 +13,12 @@ pub FitsEach-item : (m : Monomial) (g : List Term) (k : ℕ) (u : Term) → Fits
 FitsEach-item m [] k u h below at = absurd (omega arith)
 FitsEach-item m (t ∷ g) zero u h below at = subst (λ (x : Term). ExponentsFit m x.0) (sym at) h.0
 FitsEach-item m (t ∷ g) (suc k) u h below at = FitsEach-item m g k u h.1 (omega arith) at
+
+-- so does what is left from a place on
+pub FitsEach-drop : (m : Monomial) (k : ℕ) (g : List Term) → FitsEach m g → FitsEach m (drop k g)
+FitsEach-drop m zero g h = h
+FitsEach-drop m (suc k) [] h = h
+FitsEach-drop m (suc k) (t ∷ g) h = FitsEach-drop m k g h.1
 
 -- the items at two places fit
 pub PairsFit-items : (f g : List Term) (i j : ℕ) (t u : Term) → PairsFit f g → i < length f → t ≡ get_or f i t → j < length g → u ≡ get_or g j u → ExponentsFit t.0 u.0

@@ -19,3 +19,4 @@ pub mod BoxTurns
 pub mod BoxRows
 pub mod BoxSums
 mod Copies
+pub mod RowItems

@@ -1,27 +1,12 @@
--- The products by one term stand in order, and none is 0.
-use Rattle.std.proofs.Common.{[], ◌∷◌, sym, subst, ◌∙◌, refl, map}
+-- The product is a polynomial.
+use Rattle.std.proofs.Common.{[], ◌∷◌, ◌++◌, sym, ap, ◌∙◌, subst}
 use Rattle.mono_words.specs.declared.mono.TheConstants.{VARS}
-use Rattle.polynomials.specs.Polynomials.{IsPolynomial}
+use Rattle.polynomials.specs.Polynomials.{IsPolynomial, product_of}
 use Rattle.polynomials.proofs.Canonical.{IsPolynomial-product_of}
 use Rattle.sparse_poly.proofs.Moduli.{positive_modulus}
-use Rattle.sparse_poly.proofs.Places.{IsPolynomial-item}
-use Rattle.sparse_poly.proofs.Passes.{pass_end}
-use Rattle.sparse_poly.proofs.Products.{reduced_product, product_of-term}
-use Rattle.sparse_poly.proofs.FittingPairs.{FitsEach-item}
 use Rattle.sparse_poly.proofs.product.term_times.Goals as goal
-
-pub product-requires : goal.product-requires
-product-requires c = FitsEach-item c.args.t.0 c.args.g.now c.loop-u.u-index c.u-item.result c.requires.fit c.loop-u-test.true c.u-item.is
-
-pub mul-requires-clause-right : goal.mul-requires-clause-right
-mul-requires-clause-right c = (IsPolynomial-item c.args.f VARS c.loop-u.u-index c.args.g.now c.u-item.result c.requires.over c.loop-u-test.true c.u-item.is).2
-
-pub returns-clause-value : goal.returns-clause-value
-returns-clause-value c =
-    pass_end (map (reduced_product c.args.f c.args.t)) refl c.loop-u.out.items c.args.g.now _ c.loop-u.u-index c.loop-u-test.false c.loop-u.invariant
-    ∙ sym (product_of-term c.args.f VARS c.facts.ensures.prime c.args.t c.args.g.now c.requires.term c.requires.over)
 
 pub returns-clause-over : goal.returns-clause-over
 returns-clause-over c =
-    subst (IsPolynomial c.args.f VARS) (sym (returns-clause-value c))
+    subst (IsPolynomial c.args.f VARS) (sym (c.in_ok-append_times.ensures ∙ ap (λ l. l ++ product_of c.args.f (c.args.t ∷ []) c.args.g.now) c.in_ok-out.ensures.items))
     (IsPolynomial-product_of c.args.f VARS (positive_modulus c.facts.ensures.least) (c.args.t ∷ []) c.args.g.now c.requires.term c.requires.over)
