@@ -1,5 +1,5 @@
 -- What a call says of a quotient, from what the quotient is.
-use Rattle.std.proofs.Common.{◌≡◌, ◌≢◌, ℕ, ◌+◌, ◌<◌, ◌≤◌, ◌↔◌, Bool, true, false, [], ◌∷◌, ◌++◌, subst, Option, Some, None, IfSome, IfNone, IsNone, refl, sym, ap, ◌∙◌, arith}
+use Rattle.std.proofs.Common.{◌≡◌, ◌≢◌, ℕ, ◌+◌, ◌<◌, ◌↔◌, Bool, true, false, [], ◌∷◌, ◌++◌, subst, Option, Some, None, IfSome, IfNone, IsNone, refl, sym, ap, ◌∙◌, arith}
 use Rattle.polynomials.specs.Primes.{IsPrime}
 use Rattle.polynomials.specs.Monomials.{Monomial, exponent_of, monomial_product, MonomialDivides}
 use Rattle.polynomials.specs.Polynomials.{term, Polynomial, IsPolynomial, product_of}
@@ -48,12 +48,6 @@ module _ (p n w : ℕ) (prime : IsPrime p) (a b : Polynomial) (i : IsPolynomial 
   -- what is said of a quotient that is there
   pub canonical_of : (q : Polynomial) → quotient_within p w a b ≡ Some q → IsPolynomial p n q
   canonical_of q e = IsPolynomial-quotient_within p n w a b q positive i j e
-
-  pub small_of : (q : Polynomial) → quotient_within p w a b ≡ Some q → a ≢ [] → ((v : ℕ) → degree_in v a ≤ 65535) → (v : ℕ) → degree_in v q ≤ 65535
-  small_of q e some small v =
-      let adds = quotient_within_degree p n w a b q prime i j e some v in
-      let most = small v in
-      omega arith
 
   pub exact_of : (r : Option Polynomial) → r ≡ quotient_within p w a b → IfSome r (λ q. product_of p q b ≡ a)
   exact_of None e = tt

@@ -2,7 +2,7 @@
 use Rattle.std.proofs.Common.{◌≡◌, ◌∙◌, Some, IfSome, sym, ap, subst}
 use Rattle.mono_words.specs.declared.mono.TheConstants.{VARS}
 use Rattle.division_rules.specs.Quotients.{quotient_within}
-use Rattle.poly_quotient.proofs.Clauses.{none_of_last, none_of_degrees, room_of, canonical_of, small_of}
+use Rattle.poly_quotient.proofs.Clauses.{none_of_last, none_of_degrees, room_of, canonical_of}
 use Rattle.poly_quotient.proofs.quotient.found.Goals as goal
 
 pub last_monomial-last-requires : goal.last_monomial-last-requires
@@ -29,13 +29,8 @@ returns-then-not-divides-2 c =
 pub divided-requires-clause-room : goal.divided-requires-clause-room
 divided-requires-clause-room c = room_of c.args.w.field VARS c.args.w.width c.facts.ensures.prime c.args.a.now c.args.b.now c.requires.left c.requires.right c.requires.nonzero c.degrees-low.result c.degrees-high.result c.degrees-low.ensures c.degrees-high.ensures c.quotient.result c.quotient.ensures
 
-pub over-requires-clause-canonical : goal.over-requires-clause-canonical
-over-requires-clause-canonical c = canonical_of c.args.w.field VARS c.args.w.width c.facts.ensures.prime c.args.a.now c.args.b.now c.requires.left c.requires.right c.requires.nonzero c.in-Some.terms.items (subst (λ o. IfSome o (λ q. quotient_within c.args.w.field c.args.w.width c.args.a.now c.args.b.now ≡ Some q.items)) c.in-Some.is c.in_ok-terms.ensures.quotient)
-
-pub over-requires-clause-small : goal.over-requires-clause-small
-over-requires-clause-small c =
-    small_of c.args.w.field VARS c.args.w.width c.facts.ensures.prime c.args.a.now c.args.b.now c.requires.left c.requires.right c.requires.nonzero c.in-Some.terms.items (subst (λ o. IfSome o (λ q. quotient_within c.args.w.field c.args.w.width c.args.a.now c.args.b.now ≡ Some q.items)) c.in-Some.is c.in_ok-terms.ensures.quotient)
-    (λ e. let f = c.if-is_zero.ensures.1 e in cc) c.terms.ensures.exponents
+pub over-requires : goal.over-requires
+over-requires c = canonical_of c.args.w.field VARS c.args.w.width c.facts.ensures.prime c.args.a.now c.args.b.now c.requires.left c.requires.right c.requires.nonzero c.in-Some.terms.items (subst (λ o. IfSome o (λ q. quotient_within c.args.w.field c.args.w.width c.args.a.now c.args.b.now ≡ Some q.items)) c.in-Some.is c.in_ok-terms.ensures.quotient)
 
 pub returns : goal.returns
 returns c = ap Some c.over.ensures ∙ sym (subst (λ o. IfSome o (λ q. quotient_within c.args.w.field c.args.w.width c.args.a.now c.args.b.now ≡ Some q.items)) c.in-Some.is c.in_ok-terms.ensures.quotient)
