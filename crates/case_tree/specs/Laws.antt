@@ -1,11 +1,14 @@
--- The laws of a system's steps: no common zero is lost, and none is invented.
-use Rattle.std.specs.Prelude.{ℕ, List}
+-- The laws of a system's steps: no common zero is lost, none is invented, and ranks fall.
+use Rattle.std.specs.Prelude.{ℕ, List, length}
+use Rattle.mono_words.specs.declared.mono.TheConstants.{VARS}
 use Rattle.zero_sets.specs.Domains.{Tables, IsPointOver}
 use Rattle.zero_sets.specs.ZeroSets.{InZeroSet}
 use Rattle.zero_sets.specs.Tasks.{Task, InTask}
 use Rattle.finish_rules.specs.Leaves.{InLeaf}
 use Rattle.tree_laws.specs.Points.{IsKeptBy, IfEmitted}
 use Rattle.case_laws.specs.Laws.{IsSoundLeaf}
+use Rattle.rank_laws.specs.Kids.{EachKid}
+use Rattle.rank_laws.specs.Laws.{HasLessRank}
 use Rattle.case_tree.specs.Systems.{CaseSystem, IsTaskOf, polynomial_system_of, step_of}
 
 -- in any finite domain of the characteristic, a common zero of the system's inputs that is a point
@@ -25,3 +28,11 @@ EmitsCommonZerosAlone =
     (cases : CaseSystem) (task : Task)
     → IsTaskOf cases task
     → IfEmitted (IsSoundLeaf (polynomial_system_of cases.system)) (step_of cases task)
+
+-- each child of the step of a task of the system has less rank than the task
+abbrev pub StepsLowerTheRank : Type 0
+StepsLowerTheRank =
+    (cases : CaseSystem) (task : Task)
+    → IsTaskOf cases task
+    → EachKid (HasLessRank cases.system.prime VARS (length cases.system.names) cases.width task)
+    (step_of cases task)
