@@ -6,8 +6,14 @@ use Rattle.split_paths.specs.declared.event.Why.{Why}
 use Rattle.report_text.specs.declared.status.Status.{Status}
 use Rattle.report_text.specs.declared.status.Status.TheVariants.{Chains, Stopped}
 use Rattle.report_text.specs.Answers.{is_stopped}
+use Rattle.case_laws.specs.Lawful.{IsLawfulSystem}
+use Rattle.step_bounds.proofs.LinearSteps.{linear_systems_are_never_stopped}
+use Rattle.step_bounds.proofs.OneVariableSteps.{systems_in_one_variable_are_never_stopped}
 use Rattle.case_laws.proofs.AnswersOfSystems.{answers_are_lawful, answers_are_sound, answers_have_common_zeros}
-use Rattle.case_tree.specs.Systems.{polynomial_system_of}
+use Rattle.case_tree.specs.Systems.{IsSolvable, polynomial_system_of}
+use Rattle.system_text.specs.Lines.{TextSystem}
+use Rattle.tri_io.specs.Commands.{Options}
+use Rattle.tri_alone.specs.Limits.{AreEnough}
 use Rattle.run_rules.specs.Programs.{Ending}
 use Rattle.run_rules.specs.Runs.{Writes}
 use Rattle.tri_alone.specs.Solver.{alone, answer_of_system}
@@ -22,6 +28,13 @@ going_on false e = refl
 no_stop : (stop : Option (List ℕ × Why)) → is_stopped stop ≡ false → stop ≡ None
 no_stop None e = refl
 no_stop (Some s) e = cc
+
+-- where the limits are known to be enough no branch was stopped
+enough_stops_none : (options : Options) (system : TextSystem) → IsSolvable system → AreEnough options system → (answer_of_system VARS options system).stop ≡ None
+enough_stops_none options system solvable (few, inl is) = linear_systems_are_never_stopped VARS (length system.names) options.width options.steps (polynomial_system_of system) solvable is.linear few is.names
+enough_stops_none options system solvable (few, inr is) =
+    systems_in_one_variable_are_never_stopped VARS is.most options.width options.steps (polynomial_system_of system)
+    (subst (λ k. IsLawfulSystem VARS k (polynomial_system_of system)) is.name solvable) is.degrees few is.less
 
 -- where the text was written whole
 answered_solved : (words : List (List ℕ)) (told old new : Option (List ℕ)) (ending : Ending Status) → IsAnswered VARS words told ending → Appends old new ending.text → IsSolved VARS words told old new ending.status
@@ -40,6 +53,7 @@ answered_solved words told old new ending h appends =
         sound = answers_are_sound VARS k options.width options.steps system h.solvable;
         complete = λ chains. answers_have_common_zeros VARS k options.width options.steps system h.solvable (no_stop stop (going_on (is_stopped stop) (sym (ap (λ e. e.status) h.same) ∙ chains)));
       };
+      enough = λ known. ap (λ e. e.status) h.same ∙ ap (λ s. cond (is_stopped s) Stopped Chains) (enough_stops_none options h.system h.solvable known);
     }
 
 -- a run that wrote the ending of a system has solved it

@@ -1,3 +1,4 @@
 pub mod Solver
 pub mod Solvable
 pub mod Solved
+pub mod Limits

@@ -12,6 +12,7 @@ use Rattle.case_laws.specs.Laws.{IsLawfulAnswer, IsSoundAnswer, IsCompleteAnswer
 use Rattle.case_tree.specs.Systems.{IsSolvable, polynomial_system_of}
 use Rattle.run_rules.specs.Programs.{Ending, IsInput}
 use Rattle.tri_alone.specs.Solver.{answer_of_system, ending_of_system, written_text}
+use Rattle.tri_alone.specs.Limits.{AreEnough}
 
 -- the status goes with the answer to a system
 abbrev pub IsOfSystem : Status → Type 0
@@ -53,7 +54,8 @@ pub record Solves (n : ℕ) (system : TextSystem) (answer : Answer Leaf) (status
   pub sound : IsSoundAnswer (polynomial_system_of system) answer
   pub complete : status ≡ Chains → IsCompleteAnswer (polynomial_system_of system) answer
 
--- a system was read or made, its answer's text or summary was written, and the answer solves it
+-- a system was read or made, its answer's text or summary was written, and the answer solves it;
+-- where the limits are known to be enough no branch passed one
 pub record IsSolved (n : ℕ) (words : List (List ℕ)) (told : Option (List ℕ))
     (old new : Option (List ℕ)) (status : Status) : Type 0 where
   pub options : Options
@@ -62,3 +64,4 @@ pub record IsSolved (n : ℕ) (words : List (List ℕ)) (told : Option (List ℕ
   pub written : Appends old new
       (written_text options.made system (answer_of_system n options system))
   pub solves : Solves n system (answer_of_system n options system) status
+  pub enough : AreEnough options system → status ≡ Chains
