@@ -1,0 +1,16 @@
+pub mod Covered
+pub mod Rows
+pub mod Closings
+pub mod Noted
+pub mod AllNoted
+pub mod Handing
+pub mod HomeSums
+pub mod Moved
+pub mod Turned
+pub mod Goings
+pub mod Leading
+pub mod Joining
+pub mod Seating
+pub mod Begun
+pub mod Running
+pub mod Fresh

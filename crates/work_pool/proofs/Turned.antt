@@ -1,0 +1,213 @@
+-- What a worker's turns and its thieves do keeps its account balanced.
+use Rattle.std.proofs.Common.{◌≡◌, ◌<◌, ℕ, zero, suc, ◌+◌, List, [], ◌∷◌, ◌++◌, map, length, set, get_or, refl, sym, ap, ◌∙◌, subst, arith}
+use Rattle.std.proofs.lemmas.List.Sums.{sum_by-append, sum_by-cons}
+use Rattle.std.specs.List.{AllByRecursion, flat_map, sum_by}
+use Rattle.account_laws.proofs.Accounts.{weigh, weigh-append}
+use Rattle.generators.specs.Turns.{FirstGaveWay}
+use Rattle.offer_deck.specs.Views.{DeckId, ThiefView}
+use Rattle.split_paths.specs.declared.event.Event.{Event}
+use Rattle.split_paths.specs.declared.splitter.Step.{Step}
+use Rattle.split_paths.specs.Key.{IsClosedKey, IsTrueEvent, IsTrueOffer}
+use Rattle.split_paths.specs.Places.{Place}
+use Rattle.split_paths.specs.Tree.{children_of, events_of, events_to_come}
+use Rattle.split_paths.proofs.Lists.{all_append}
+use Rattle.work_pool.specs.Homes.{HomeView, IsDesk, decks_of}
+use Rattle.work_pool.specs.Works.{HasWorked, IsAtWork, Works, Moves}
+use Rattle.work_pool.proofs.Covered.{all_front, the_last, true_to_come}
+use Rattle.work_pool.proofs.Moved.{balance_moves, one_place, one_event, one_list, took, gave}
+
+module _ {T L : Type 0} (events : List (Event L)) (offers : List (Place T)) where
+  -- the last task that waits is given
+  pub give_one : (old new : HomeView T L) (was now : List (Place T)) (offer : Place T) → old.waiting ≡ was ∷ [] → old.offers ≡ []
+      → was ≡ now ++ offer ∷ []
+      → new ≡ record old { waiting = now ∷ []; offers = offer ∷ [] }
+      → IsAtWork events offers old → Moves events offers old new
+  unfolding IsAtWork Moves
+  give_one old new was now offer waited free cut is desk =
+      let known : AllByRecursion (IsTrueOffer offers) was =
+      (subst (λ (ws : List (List (Place T))). AllByRecursion (AllByRecursion (IsTrueOffer offers)) ws) waited desk.true_waiting).0 in
+      subst (λ (v : HomeView T L). (step : T → Step T L) → HasWorked events offers step old v) (sym is) (λ step. record {
+        desk = record {
+          true_events = desk.true_events;
+          true_waiting = (all_front (IsTrueOffer offers) was now offer known cut, tt);
+          true_offers = (the_last (IsTrueOffer offers) was now offer known cut, tt);
+        };
+        balances = λ starts. balance_moves step starts old (record old { waiting = now ∷ []; offers = offer ∷ [] }) (λ h.
+            let none : weigh step h old.offers ≡ 0 = ap (weigh step h) free in
+            let one = ap (λ (ws : List (List (Place T))). sum_by h (flat_map (events_to_come step) ws)) waited ∙ one_list step h was in
+            let two = one_list step h now in
+            let three = ap (weigh step h) cut ∙ weigh-append step h now (offer ∷ []) in omega arith);
+        hub = refl;
+        number = refl;
+        deck = refl;
+        hands = refl;
+        decks = refl;
+      })
+
+  -- the task that is held waits
+  pub begin_one : (old new : HomeView T L) (offer : Place T) → old.waiting ≡ [] → old.offers ≡ offer ∷ []
+      → new ≡ record old { waiting = (offer ∷ []) ∷ []; offers = [] }
+      → IsAtWork events offers old → Moves events offers old new
+  unfolding IsAtWork Moves
+  begin_one old new offer free held is desk =
+      let known : AllByRecursion (IsTrueOffer offers) (offer ∷ []) =
+      subst (λ (os : List (Place T)). AllByRecursion (IsTrueOffer offers) os) held desk.true_offers in
+      subst (λ (v : HomeView T L). (step : T → Step T L) → HasWorked events offers step old v) (sym is) (λ step. record {
+        desk = record { true_events = desk.true_events; true_waiting = (known, tt); true_offers = tt };
+        balances = λ starts. balance_moves step starts old (record old { waiting = (offer ∷ []) ∷ []; offers = [] }) (λ h.
+            let none : sum_by h (flat_map (events_to_come step) old.waiting) ≡ 0 = ap (λ (ws : List (List (Place T))). sum_by h (flat_map (events_to_come step) ws)) free in
+            let one = one_list step h (offer ∷ []) in
+            let two = ap (weigh step h) held in omega arith);
+        hub = refl;
+        number = refl;
+        deck = refl;
+        hands = refl;
+        decks = refl;
+      })
+
+  module _ (step : T → Step T L) (lawful : T → Type 0) where
+    -- what waits after a turn is true, too
+    waits_true : (was now : List (Place T)) (met : List (Event L)) → IsClosedKey step lawful events offers
+        → FirstGaveWay step was now met → AllByRecursion (IsTrueOffer offers) was → AllByRecursion (IsTrueOffer offers) now
+    waits_true was now met key way known =
+        let all : AllByRecursion (IsTrueOffer offers) (way.first ∷ way.rest) =
+        subst (λ (ws : List (Place T)). AllByRecursion (IsTrueOffer offers) ws) way.waited known in
+        subst (λ (ws : List (Place T)). AllByRecursion (IsTrueOffer offers) ws) (sym way.wait)
+        (all_append (IsTrueOffer offers) (children_of step way.first) way.rest (key way.first all.0).kids all.1)
+
+    -- a turn met an event
+    pub event_met : (old new : HomeView T L) (was now : List (Place T)) (event : Event L) → IsClosedKey step lawful events offers
+        → old.waiting ≡ was ∷ [] → old.events ≡ []
+        → FirstGaveWay step was now (event ∷ []) → events_to_come step was ≡ event ∷ events_to_come step now
+        → new ≡ record old { waiting = now ∷ []; events = event ∷ [] }
+        → IsAtWork events offers old → Works events offers step old new
+    unfolding IsAtWork Works
+    event_met old new was now event key waited free way met is desk =
+        let known : AllByRecursion (IsTrueOffer offers) was =
+        (subst (λ (ws : List (List (Place T))). AllByRecursion (AllByRecursion (IsTrueOffer offers)) ws) waited desk.true_waiting).0 in
+        let here : AllByRecursion (IsTrueEvent events) (event ∷ events_to_come step now) =
+        subst (λ (es : List (Event L)). AllByRecursion (IsTrueEvent events) es) met (true_to_come step lawful events offers was key known) in
+        subst (λ (v : HomeView T L). HasWorked events offers step old v) (sym is) (record {
+          desk = record {
+            true_events = (here.0, tt);
+            true_waiting = (waits_true was now (event ∷ []) key way known, tt);
+            true_offers = desk.true_offers;
+          };
+          balances = λ starts. balance_moves step starts old (record old { waiting = now ∷ []; events = event ∷ [] }) (λ h.
+              let none : sum_by h old.events ≡ 0 = ap (sum_by h) free in
+              let one = ap (λ (ws : List (List (Place T))). sum_by h (flat_map (events_to_come step) ws)) waited ∙ one_list step h was in
+              let two = one_list step h now in
+              let three = ap (sum_by h) met ∙ sum_by-cons h event (events_to_come step now) in
+              let four = one_event step h event in omega arith);
+          hub = refl;
+          number = refl;
+          deck = refl;
+          hands = refl;
+          decks = refl;
+        })
+
+    -- a turn met none
+    pub none_met : (old new : HomeView T L) (was now : List (Place T)) → IsClosedKey step lawful events offers
+        → old.waiting ≡ was ∷ []
+        → FirstGaveWay step was now [] → events_to_come step now ≡ events_to_come step was
+        → new ≡ record old { waiting = now ∷ [] }
+        → IsAtWork events offers old → Works events offers step old new
+    unfolding IsAtWork Works
+    none_met old new was now key waited way same is desk =
+        let known : AllByRecursion (IsTrueOffer offers) was =
+        (subst (λ (ws : List (List (Place T))). AllByRecursion (AllByRecursion (IsTrueOffer offers)) ws) waited desk.true_waiting).0 in
+        subst (λ (v : HomeView T L). HasWorked events offers step old v) (sym is) (record {
+          desk = record {
+            true_events = desk.true_events;
+            true_waiting = (waits_true was now [] key way known, tt);
+            true_offers = desk.true_offers;
+          };
+          balances = λ starts. balance_moves step starts old (record old { waiting = now ∷ [] }) (λ h.
+              let one = ap (λ (ws : List (List (Place T))). sum_by h (flat_map (events_to_come step) ws)) waited ∙ one_list step h was in
+              let two = one_list step h now in
+              let three = ap (sum_by h) same in omega arith);
+          hub = refl;
+          number = refl;
+          deck = refl;
+          hands = refl;
+          decks = refl;
+        })
+
+    -- nothing waits any more
+    pub all_met : (old new : HomeView T L) (was : List (Place T)) → old.waiting ≡ was ∷ [] → was ≡ []
+        → new ≡ record old { waiting = [] }
+        → IsAtWork events offers old → Works events offers step old new
+    unfolding IsAtWork Works
+    all_met old new was waited none is desk =
+        subst (λ (v : HomeView T L). HasWorked events offers step old v) (sym is) (record {
+          desk = record { true_events = desk.true_events; true_waiting = tt; true_offers = desk.true_offers };
+          balances = λ starts. balance_moves step starts old (record old { waiting = [] }) (λ h.
+              let one = ap (λ (ws : List (List (Place T))). sum_by h (flat_map (events_to_come step) ws)) waited ∙ one_list step h was in
+              let two : weigh step h was ≡ 0 = ap (weigh step h) none in omega arith);
+          hub = refl;
+          number = refl;
+          deck = refl;
+          hands = refl;
+          decks = refl;
+        })
+
+-- what one of the thieves took is taken by the thieves
+module _ {T L : Type 0} (step : T → Step T L) (h : Event L → ℕ) (offer : Place T) where
+  abbrev stolen : List (ThiefView T) → ℕ
+  stolen thieves = weigh step h (flat_map (λ (t : ThiefView T). t.taken) thieves)
+
+  stolen_cons : (t : ThiefView T) (ts : List (ThiefView T)) → stolen (t ∷ ts) ≡ weigh step h t.taken + stolen ts
+  stolen_cons t ts = weigh-append step h t.taken (flat_map (λ (t : ThiefView T). t.taken) ts)
+
+  stolen_more : (thieves : List (ThiefView T)) (k : ℕ) (old new : ThiefView T) → k < length thieves → old ≡ get_or thieves k old
+      → new ≡ record old { taken = old.taken ++ offer ∷ [] }
+      → stolen (set thieves k new) ≡ stolen thieves + weigh step h (offer ∷ [])
+  stolen_more [] k old new within at more = absurd (omega arith)
+  stolen_more (t ∷ ts) zero old new within at more =
+      let one = stolen_cons t ts in
+      let two = stolen_cons new ts in
+      let three = ap (λ (u : ThiefView T). weigh step h u.taken) more ∙ weigh-append step h old.taken (offer ∷ []) in
+      let four = ap (λ (u : ThiefView T). weigh step h u.taken) at in omega arith
+  stolen_more (t ∷ ts) (suc k) old new within at more =
+      let one = stolen_cons t ts in
+      let two = stolen_cons t (set ts k new) in
+      let three = stolen_more ts k old new (omega arith) at more in omega arith
+
+decks_stay : {T : Type 0} (thieves : List (ThiefView T)) (k : ℕ) (old new : ThiefView T) → k < length thieves → old ≡ get_or thieves k old
+    → new.deck ≡ old.deck → decks_of (set thieves k new) ≡ decks_of thieves
+decks_stay [] k old new within at same = absurd (omega arith)
+decks_stay (t ∷ ts) zero old new within at same = ap (λ (d : DeckId). d ∷ decks_of ts) (same ∙ ap (λ (u : ThiefView _). u.deck) at)
+decks_stay (t ∷ ts) (suc k) old new within at same = ap (λ (ds : List DeckId). t.deck ∷ ds) (decks_stay ts k old new (omega arith) at same)
+
+set_same : {A : Type 0} (xs : List A) (k : ℕ) (x : A) → k < length xs → x ≡ get_or xs k x → set xs k x ≡ xs
+set_same [] k x within at = absurd (omega arith)
+set_same (y ∷ xs) zero x within at = ap (λ (z : _). z ∷ xs) at
+set_same (y ∷ xs) (suc k) x within at = ap (λ (zs : List _). y ∷ zs) (set_same xs k x (omega arith) at)
+
+module _ {T L : Type 0} (events : List (Event L)) (offers : List (Place T)) where
+  -- a thief took an offer
+  pub steal_one : (old new : HomeView T L) (k : ℕ) (thief more : ThiefView T) (offer : Place T) → old.offers ≡ [] → IsTrueOffer offers offer
+      → k < length old.thieves → thief ≡ get_or old.thieves k thief → more ≡ record thief { taken = thief.taken ++ offer ∷ [] }
+      → new ≡ record old { thieves = set old.thieves k more; offers = offer ∷ [] }
+      → IsAtWork events offers old → Moves events offers old new
+  unfolding IsAtWork Moves
+  steal_one old new k thief more offer free known within at grown is desk =
+      subst (λ (v : HomeView T L). (step : T → Step T L) → HasWorked events offers step old v) (sym is) (λ step. record {
+        desk = record { true_events = desk.true_events; true_waiting = desk.true_waiting; true_offers = (known, tt) };
+        balances = λ starts. balance_moves step starts old (record old { thieves = set old.thieves k more; offers = offer ∷ [] }) (λ h.
+            let none : weigh step h old.offers ≡ 0 = ap (weigh step h) free in
+            let one = stolen_more step h offer old.thieves k thief more within at grown in omega arith);
+        hub = refl;
+        number = refl;
+        deck = refl;
+        hands = refl;
+        decks = decks_stay old.thieves k thief more within at (ap (λ (u : ThiefView T). u.deck) grown);
+      })
+
+  -- a thief took none
+  pub steal_none : (old new : HomeView T L) (k : ℕ) (thief more : ThiefView T)
+      → k < length old.thieves → thief ≡ get_or old.thieves k thief → more ≡ thief
+      → new ≡ record old { thieves = set old.thieves k more } → new ≡ old
+  steal_none old new k thief more within at same is =
+      is ∙ (ap (λ (t : ThiefView T). record old { thieves = set old.thieves k t }) same
+      ∙ ap (λ (ts : List (ThiefView T)). record old { thieves = ts }) (set_same old.thieves k thief within at))

@@ -1,0 +1,10 @@
+pub mod Noting
+pub mod Rows
+pub mod Closing
+pub mod Homes
+pub mod Works
+pub mod Taken
+pub mod Jobs
+pub mod Seats
+pub mod Runs
+pub mod Fresh

@@ -1,0 +1,277 @@
+//! What a worker does in one go, each a small change of what it holds.
+ghost use Rattle.std.specs.Prelude.{◌≡◌, ◌<◌, ◌↔◌, [], ◌∷◌, length, OnOk, IsTrue};
+ghost use Rattle.split_paths.specs.Key.{IsClosedKey};
+ghost use Rattle.work_pool.specs.Works.{IsAtWork, Moves, Works};
+
+use crate::homes::Home;
+use event_lanes::Hub;
+use generators::{Generator, Turn};
+use offer_deck::Steal;
+use split_paths::{Event, Named, Offer, Splitter};
+use std::alloc::{AllocError, Global};
+use std::sync::Wait;
+use std::thread::yield_now;
+
+impl<X: Splitter, N: Named<X::Task, X::Leaf>> Home<X, N> {
+    /// Tries to put the event that is held, and lets others run where there is no room.
+    fn put<R: Wait>(&mut self, rt: &R, hub: &Hub<X, N>)
+        requires desk { IsAtWork N.events N.offers self.old }
+        requires hub { self.old.lane.hub ≡ hub.now.name }
+        ensures { Moves N.events N.offers self.old self.new }
+    {
+        let Some(event) = self.event.take() else {
+            return;
+        };
+        if let Err(full) = hub.put(rt, &mut self.lane, event) {
+            self.event = Some(full.event);
+            yield_now();
+        }
+    }
+
+    /// Makes a turn of the generator, and tells whether it met a split.
+    fn turn(&mut self, splitter: &X) -> Result<bool, AllocError>
+        requires key { IsClosedKey (X.step splitter.now) (X.lawful_task splitter.now)
+            N.events N.offers }
+        requires desk { IsAtWork N.events N.offers self.old }
+        requires free { self.old.events ≡ [] }
+        ensures { OnOk result (Works N.events N.offers (X.step splitter.now) self.old self.new) }
+    {
+        let Some(mut generator) = self.generator.take() else {
+            return Ok(false);
+        };
+        match generator.turn(splitter) {
+            Ok(Turn::Quiet) => {
+                self.generator = Some(generator);
+                Ok(false)
+            }
+            Ok(Turn::Event(event)) => {
+                let split = matches!(&event, Event::Split { .. });
+                self.event = Some(event);
+                self.generator = Some(generator);
+                Ok(split)
+            }
+            Ok(Turn::Done) => Ok(false),
+            Err(_) => Err(AllocError),
+        }
+    }
+
+    /// Holds a task that is to be run.
+    fn keep(&mut self, offer: Offer<X>)
+        ensures { self.new ≡ record self.old { offers = offer ∷ [] } }
+    {
+        self.offer = Some(offer);
+    }
+
+    /// Takes the oldest offer of the own deck, if there is one.
+    fn recall(&mut self)
+        requires desk { IsAtWork N.events N.offers self.old }
+        requires free { self.old.offers ≡ [] }
+        ensures { Moves N.events N.offers self.old self.new }
+    {
+        if let Some(offer) = self.owner.recall() {
+            self.keep(offer);
+        }
+    }
+
+    /// Takes the last task that waits, if another waits before it.
+    fn give(&mut self)
+        requires desk { IsAtWork N.events N.offers self.old }
+        requires free { self.old.offers ≡ [] }
+        ensures { Moves N.events N.offers self.old self.new }
+    {
+        let Some(mut generator) = self.generator.take() else {
+            return;
+        };
+        self.offer = generator.give();
+        self.generator = Some(generator);
+    }
+
+    /// Offers the task that is held, unless there is no room for it.
+    fn offer(&mut self)
+        requires desk { IsAtWork N.events N.offers self.old }
+        ensures { Moves N.events N.offers self.old self.new }
+    {
+        let Some(offer) = self.offer.take() else {
+            return;
+        };
+        if let Err(back) = self.owner.offer(offer) {
+            self.keep(back);
+        }
+    }
+
+    /// Lets the task that is held wait, as the only one.
+    fn begin(&mut self, alloc: Global) -> Result<(), AllocError>
+        requires desk { IsAtWork N.events N.offers self.old }
+        requires free { self.old.waiting ≡ [] }
+        ensures { OnOk result (Moves N.events N.offers self.old self.new) }
+    {
+        let Some(offer) = self.offer.take() else {
+            return Ok(());
+        };
+        let generator = Generator::of(alloc, offer)?;
+        self.generator = Some(generator);
+        Ok(())
+    }
+
+    /// Tries to take an offer of another's deck, and lets others run where there is none.
+    fn steal<R: Wait>(&mut self, rt: &R, k: usize)
+        requires desk { IsAtWork N.events N.offers self.old }
+        requires free { self.old.offers ≡ [] }
+        requires within { k < length self.old.thieves }
+        ensures { Moves N.events N.offers self.old self.new }
+    {
+        match self.thieves[k].steal(rt) {
+            Steal::Got(offer) => self.keep(offer),
+            Steal::Empty => yield_now(),
+        }
+    }
+
+    /// Whether no event is held.
+    fn has_put(&self) -> bool
+        ensures { IsTrue result ↔ (self.now.events ≡ []) }
+    {
+        match &self.event {
+            Some(_) => false,
+            None => true,
+        }
+    }
+
+    /// Whether there is no generator.
+    fn is_idle(&self) -> bool
+        ensures { IsTrue result ↔ (self.now.waiting ≡ []) }
+    {
+        match &self.generator {
+            Some(_) => false,
+            None => true,
+        }
+    }
+
+    /// Whether no task is held that is to be run.
+    fn is_free(&self) -> bool
+        ensures { IsTrue result ↔ (self.now.offers ≡ []) }
+    {
+        match &self.offer {
+            Some(_) => false,
+            None => true,
+        }
+    }
+
+    /// Whether two tasks or more wait.
+    fn has_two(&self) -> bool {
+        match &self.generator {
+            Some(generator) => generator.count() >= 2,
+            None => false,
+        }
+    }
+
+    /// Takes the last task that waits, unless a task is held.
+    #[tactic(auto, using(crate::proofs::Moved::move_rules))]
+    fn fill(&mut self)
+        requires { IsAtWork N.events N.offers self.old }
+        ensures { Moves N.events N.offers self.old self.new }
+    {
+        if self.is_free() {
+            self.give();
+        }
+    }
+
+    /// Offers a task to the others.
+    ///
+    /// What the own deck still holds is offered again. A task that comes back is kept.
+    #[tactic(auto, using(crate::proofs::Moved::move_rules))]
+    fn share(&mut self)
+        requires desk { IsAtWork N.events N.offers self.old }
+        requires free { self.old.offers ≡ [] }
+        ensures { Moves N.events N.offers self.old self.new }
+    {
+        self.recall();
+        self.fill();
+        self.offer();
+    }
+
+    /// Offers a task where two wait, unless one came back before.
+    #[tactic(auto, using(crate::proofs::Moved::move_rules))]
+    fn share_one(&mut self)
+        requires { IsAtWork N.events N.offers self.old }
+        ensures { Moves N.events N.offers self.old self.new }
+    {
+        if self.is_free() && self.has_two() {
+            self.share();
+        }
+    }
+
+    /// Makes a turn, and offers a task after a split.
+    #[tactic(auto, using(crate::proofs::Moved::move_rules))]
+    fn turn_and_share(&mut self, splitter: &X) -> Result<(), AllocError>
+        requires key { IsClosedKey (X.step splitter.now) (X.lawful_task splitter.now)
+            N.events N.offers }
+        requires desk { IsAtWork N.events N.offers self.old }
+        requires free { self.old.events ≡ [] }
+        ensures { OnOk result (Works N.events N.offers (X.step splitter.now) self.old self.new) }
+    {
+        if self.turn(splitter)? {
+            self.share_one();
+        }
+        Ok(())
+    }
+
+    /// Looks for an offer of the deck that is next in turn.
+    #[tactic(auto, using(crate::proofs::Moved::move_rules))]
+    fn look<R: Wait>(&mut self, rt: &R, next: &mut usize)
+        requires desk { IsAtWork N.events N.offers self.old }
+        requires free { self.old.offers ≡ [] }
+        ensures { Moves N.events N.offers self.old self.new }
+    {
+        let count = self.thieves.len();
+        if count == 0 {
+            yield_now();
+            return;
+        }
+        let k = *next % count;
+        *next = k + 1;
+        self.steal(rt, k);
+    }
+
+    /// Looks for a task: the own oldest offer, or else one of another's.
+    #[tactic(auto, using(crate::proofs::Moved::move_rules))]
+    fn find<R: Wait>(&mut self, rt: &R, next: &mut usize)
+        requires desk { IsAtWork N.events N.offers self.old }
+        requires free { self.old.offers ≡ [] }
+        ensures { Moves N.events N.offers self.old self.new }
+    {
+        self.recall();
+        if self.is_free() {
+            self.look(rt, next);
+        }
+    }
+
+    /// Goes on in one of the ways above.
+    #[tactic(auto, using(crate::proofs::Moved::move_rules))]
+    pub(crate) fn go_on<R: Wait>(
+        &mut self,
+        rt: &R,
+        alloc: Global,
+        splitter: &X,
+        hub: &Hub<X, N>,
+        next: &mut usize,
+    ) -> Result<(), AllocError>
+        requires key { IsClosedKey (X.step splitter.now) (X.lawful_task splitter.now)
+            N.events N.offers }
+        requires desk { IsAtWork N.events N.offers self.old }
+        requires hub { self.old.lane.hub ≡ hub.now.name }
+        ensures { OnOk result (Works N.events N.offers (X.step splitter.now) self.old self.new) }
+    {
+        if !self.has_put() {
+            self.put(rt, hub);
+            return Ok(());
+        }
+        if !self.is_idle() {
+            return self.turn_and_share(splitter);
+        }
+        if !self.is_free() {
+            return self.begin(alloc);
+        }
+        self.find(rt, next);
+        Ok(())
+    }
+}

@@ -1,0 +1,22 @@
+//! A tree of splits, walked by several workers, whose answer is handed out in path order.
+#![tactic(auto)]
+
+mod close;
+mod column;
+mod desk;
+mod end;
+mod homes;
+mod job;
+mod lead;
+mod pool;
+mod rest;
+mod run;
+mod seats;
+mod setup;
+mod start;
+mod taker;
+mod walk;
+mod worker;
+
+pub use pool::pool_run;
+pub use taker::{End, PoolError, PoolSize, Taker};
