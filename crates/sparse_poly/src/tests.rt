@@ -107,57 +107,61 @@ fn views_agree_with_terms_taken_apart_by_hand(rt: HostRuntime) -> Result<(), Fai
     Ok(())
 }
 
+/// Whether the product of two polynomials fits the width and no smaller one, and is the third.
+fn has_product(
+    alloc: Global,
+    f: Field,
+    width: u32,
+    left: &[(u32, u16, u16, u16)],
+    right: &[(u32, u16, u16, u16)],
+    product: &[(u32, u16, u16, u16)],
+) -> Result<bool, AllocError>
+    requires { 0 < width }
+{
+    let left = poly(alloc, f, left)?;
+    let right = poly(alloc, f, right)?;
+    let product = poly(alloc, f, product)?;
+    let narrow = Work {
+        field: f,
+        width: width - 1,
+    };
+    let wide = Work { field: f, width };
+    if left.mul(narrow, &right)?.is_some() {
+        return Ok(false);
+    }
+    match left.mul(wide, &right)? {
+        Some(made) => Ok(made == product),
+        None => Ok(false),
+    }
+}
+
 #[test]
 fn products_agree_with_sums_done_by_hand(rt: HostRuntime) -> Result<(), Fail> {
     let alloc = rt.alloc();
-    for (p, width, left, right, product) in [
-        // A square modulo 2 is the sum of the squares.
-        (
-            2,
-            9,
-            [(1, 1, 0, 0), (1, 0, 1, 0), (1, 0, 0, 1)],
-            [(1, 1, 0, 0), (1, 0, 1, 0), (1, 0, 0, 1)],
-            [(1, 2, 0, 0), (1, 0, 2, 0), (1, 0, 0, 2), (0, 0, 0, 0)],
-        ),
-        // (x - y) (x + y + z)
-        (
-            32003,
-            6,
-            [(1, 1, 0, 0), (32002, 0, 1, 0), (0, 0, 0, 0)],
-            [(1, 1, 0, 0), (1, 0, 1, 0), (1, 0, 0, 1)],
-            [
-                (1, 2, 0, 0),
-                (1, 1, 0, 1),
-                (32002, 0, 2, 0),
-                (32002, 0, 1, 1),
-            ],
-        ),
-        // (256 x + y z) (256 x - y z), where 256 is a root of -1
-        (
-            65537,
-            4,
-            [(256, 1, 0, 0), (1, 0, 1, 1), (0, 0, 0, 0)],
-            [(256, 1, 0, 0), (65536, 0, 1, 1), (0, 0, 0, 0)],
-            [
-                (65536, 2, 0, 0),
-                (65536, 0, 2, 2),
-                (0, 0, 0, 0),
-                (0, 0, 0, 0),
-            ],
-        ),
-    ] {
-        let field = Field::of(p)?;
-        let left = poly(alloc, field, &left)?;
-        let right = poly(alloc, field, &right)?;
-        let product = poly(alloc, field, &product)?;
-        let narrow = Work {
-            field,
-            width: width - 1,
-        };
-        let wide = Work { field, width };
-        assert!(rt; left.mul(narrow, &right)?.is_none());
-        assert!(rt; left.mul(wide, &right)?.is_some_and(|made| made == product));
-    }
+
+    // A square modulo 2 is the sum of the squares.
+    let f = Field::of(2)?;
+    let line = [(1, 1, 0, 0), (1, 0, 1, 0), (1, 0, 0, 1)];
+    let squares = [(1, 2, 0, 0), (1, 0, 2, 0), (1, 0, 0, 2)];
+    assert!(rt; has_product(alloc, f, 9, &line, &line, &squares)?);
+
+    // (x - y) (x + y + z)
+    let f = Field::of(32003)?;
+    let difference = [(1, 1, 0, 0), (32002, 0, 1, 0)];
+    let product = [
+        (1, 2, 0, 0),
+        (1, 1, 0, 1),
+        (32002, 0, 2, 0),
+        (32002, 0, 1, 1),
+    ];
+    assert!(rt; has_product(alloc, f, 6, &difference, &line, &product)?);
+
+    // (256 x + y z) (256 x - y z), where 256 is a root of -1
+    let f = Field::of(65537)?;
+    let sum = [(256, 1, 0, 0), (1, 0, 1, 1)];
+    let difference = [(256, 1, 0, 0), (65536, 0, 1, 1)];
+    let product = [(65536, 2, 0, 0), (65536, 0, 2, 2)];
+    assert!(rt; has_product(alloc, f, 4, &sum, &difference, &product)?);
     Ok(())
 }
 
