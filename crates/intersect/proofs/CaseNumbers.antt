@@ -45,3 +45,10 @@ module _ (p k : ℕ) where
 -- in the cases by rows
 pub rows_have_cases : (p w : ℕ) (ns : List Polynomial) (rows : RowEnds) (common : Bool) → AreCasesOf (length rows.leads) (cases_of_rows p w ns rows common)
 rows_have_cases p w ns rows common = each_appended (IsCaseOf (length rows.leads)) (member_cases p w rows common ++ map Lead (lead_cases p ns rows.leads)) (initial_cases p ns rows.leads) (each_appended (IsCaseOf (length rows.leads)) (member_cases p w rows common) (map Lead (lead_cases p ns rows.leads)) (member_is_case p (length rows.leads) w rows common) (cases_of_numbers p (length rows.leads) (lead_cases p ns rows.leads) (lead_numbers p (length rows.leads) ns rows.leads refl))) (initial_is_case p (length rows.leads) ns rows.leads)
+
+-- the last case, and those before it
+pub cases_split : (k : ℕ) (before : List Case) (last : Case) → AreCasesOf k (before ++ last ∷ []) → AreCasesOf k before × IsCaseOf k last
+cases_split k [] last each = (tt, each.0)
+cases_split k (case ∷ before) last each =
+    let rest = cases_split k before last each.1 in
+    ((each.0, rest.0), rest.1)
