@@ -8,3 +8,4 @@ pub mod Jobs
 pub mod Seats
 pub mod Runs
 pub mod Fresh
+pub mod Samples

@@ -15,6 +15,8 @@ mod seats;
 mod setup;
 mod start;
 mod taker;
+#[cfg(test)]
+mod tests;
 mod walk;
 mod worker;
 
