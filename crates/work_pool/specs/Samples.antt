@@ -31,7 +31,8 @@ abbrev IsFree : Step ℕ ℕ → Type 0
 IsFree step = IsLawfulStep (λ task. Unit {0}) (λ leaf. Unit {0}) step
 
 -- a step that is one of two is lawful where both are
-choice : (b : Bool) (one other : Step ℕ ℕ) → IsFree one → IsFree other → IsFree (if b then one else other)
+choice : (b : Bool) (one other : Step ℕ ℕ) → IsFree one → IsFree other
+    → IsFree (if b then one else other)
 choice true one other of_one of_other = of_one
 choice false one other of_one of_other = of_other
 
@@ -46,7 +47,8 @@ thirteen_is_lawful n =
     (choice (n == 3) (Kids (10 ∷ 11 ∷ 12 ∷ [])) (Emit n) (three 10 11 12) tt)))
 
 pub two_leaves_are_lawful : (n : ℕ) → IsFree (two_leaves n)
-two_leaves_are_lawful n = choice (n == 0) (Kids (1 ∷ 2 ∷ [])) (Emit n) (lit< tt, lit< tt, (tt, (tt, tt))) tt
+two_leaves_are_lawful n =
+    choice (n == 0) (Kids (1 ∷ 2 ∷ [])) (Emit n) (lit< tt, lit< tt, (tt, (tt, tt))) tt
 
 pub shares_are_lawful : (wide n : ℕ) → IsFree (shares wide n)
 shares_are_lawful wide n =
