@@ -1,8 +1,1 @@
-mod Ranges
-mod Statuses
-mod Answered
-mod Made
-mod Solved
 mod Systems
-mod Printable
-mod Usages

@@ -13,7 +13,8 @@ use Rattle.report_text.specs.declared.status.Status.{Status}
 use Rattle.report_text.specs.declared.status.Status.TheVariants.{Chains, Stopped}
 use Rattle.solver_reports.specs.Walks.{Walk}
 use Rattle.run_rules.specs.Programs.{Ending}
-use Rattle.tri_alone.specs.Solver.{ending_of_system, walk_for}
+use Rattle.solver_rules.specs.Solver.{ending_of_system}
+use Rattle.tri_alone.specs.Alone.{walk_for}
 
 -- the place of a task
 abbrev place : List ℕ → ℕ → Task → Place Task

@@ -1,4 +1,1 @@
-pub mod Solver
-pub mod Solvable
-pub mod Solved
-pub mod Limits
+pub mod Alone

@@ -2,13 +2,16 @@
 #![tactic(auto)]
 
 mod ending;
-mod laws;
 mod run;
 mod walks;
 
-pub use laws::runs_have_one_ending;
 pub use report_text::Status;
-pub use run::{MOST_BYTES, run_alone};
+pub use run::run_alone;
+pub use solver_inputs::MOST_BYTES;
 
+#[cfg(test)]
+mod fault_tests;
+#[cfg(test)]
+mod limit_tests;
 #[cfg(test)]
 mod tests;

@@ -3,7 +3,7 @@ ghost use Rattle.split_paths.specs.Answer.{answer_of};
 ghost use Rattle.split_paths.specs.Tree.{events_of};
 ghost use Rattle.system_text.specs.Laws.{IsSystem};
 ghost use Rattle.case_tree.specs.Systems.{IsTaskOf, step_of};
-ghost use Rattle.tri_alone.specs.Solver.{walk_for};
+ghost use Rattle.tri_alone.specs.Alone.{walk_for};
 
 use case_tree::Cases;
 use mono_words::VARS;

@@ -1,37 +1,38 @@
--- Words that are no command have the usage line, and nothing is read, as where a system is made.
-use Rattle.std.proofs.Common.{map, string_bytes, ap, Err}
-use Rattle.report_text.specs.declared.status.Status.TheVariants.{ReadFault, OutOfMemory}
-use Rattle.run_rules.proofs.Inputs.{unread_leaves}
-use Rattle.tri_alone.specs.Solver.{alone}
-use Rattle.tri_alone.proofs.Statuses.{of_two}
-use Rattle.tri_alone.proofs.Usages.{no_reader, unread_leaves_all, unread_leaves_all_fault, usage_expected, usage_answered, usage_tells, usage_is}
+-- A line is handed on, and cases end with the answer of their system.
+use Rattle.std.proofs.Common.{map, string_bytes, false}
+use Rattle.solver_rules.proofs.Asked.{line_answered, ends_with_usage, are_of_command, cases_expected, cases_answered, cases_not_usage}
+use Rattle.solver_inputs.proofs.Asks.{line_asked, cases_asked}
 use Rattle.tri_alone.proofs.run.prepared.Goals as goal
 
-pub returns-in-Err-NotACommand-clause-expected : goal.returns-in-Err-NotACommand-clause-expected
-returns-in-Err-NotACommand-clause-expected g c = usage_expected (map string_bytes c.args.words.now) _ _ (c.in-Err-NotACommand.ensures.refused (ap Err c.in-Err-NotACommand.field-0-is)) c.usage.ensures.usage
+pub returns-in-Ok-Line-clause-expected : goal.returns-in-Ok-Line-clause-expected
+returns-in-Ok-Line-clause-expected g c = (line_asked false (map string_bytes c.args.words.now) _ _ _ c.in-Ok-Line.field-0-is c.in-Ok-Line.ensures.asked).expected
 
-pub returns-in-Err-NotACommand-clause-answered : goal.returns-in-Err-NotACommand-clause-answered
-returns-in-Err-NotACommand-clause-answered g c = usage_answered (map string_bytes c.args.words.now) _ _ c.usage.ensures.usage
+pub returns-in-Ok-Line-clause-answered : goal.returns-in-Ok-Line-clause-answered
+returns-in-Ok-Line-clause-answered g c = line_answered false (map string_bytes c.args.words.now) _ _ (line_asked false (map string_bytes c.args.words.now) _ _ _ c.in-Ok-Line.field-0-is c.in-Ok-Line.ensures.asked)
 
-pub returns-in-Err-NotACommand-clause-usage : goal.returns-in-Err-NotACommand-clause-usage
-returns-in-Err-NotACommand-clause-usage g c = usage_tells (map string_bytes c.args.words.now) _ (c.in-Err-NotACommand.ensures.refused (ap Err c.in-Err-NotACommand.field-0-is))
+pub returns-in-Ok-Line-clause-usage : goal.returns-in-Ok-Line-clause-usage
+returns-in-Ok-Line-clause-usage g c = (line_asked false (map string_bytes c.args.words.now) _ _ _ c.in-Ok-Line.field-0-is c.in-Ok-Line.ensures.asked).usage
 
-pub returns-in-Err-NotACommand-clause-words : goal.returns-in-Err-NotACommand-clause-words
-returns-in-Err-NotACommand-clause-words g c = usage_is (map string_bytes c.args.words.now) _ c.usage.ensures.usage
+pub returns-in-Ok-Line-clause-words : goal.returns-in-Ok-Line-clause-words
+returns-in-Ok-Line-clause-words g c = ends_with_usage false (map string_bytes c.args.words.now) _ _ (line_asked false (map string_bytes c.args.words.now) _ _ _ c.in-Ok-Line.field-0-is c.in-Ok-Line.ensures.asked).expected
 
-pub returns-in-Err-NotACommand-clause-leaves : goal.returns-in-Err-NotACommand-clause-leaves
-returns-in-Err-NotACommand-clause-leaves g c = unread_leaves_all (map string_bytes c.args.words.now) _ _ (no_reader (map string_bytes c.args.words.now) (c.in-Err-NotACommand.ensures.refused (ap Err c.in-Err-NotACommand.field-0-is)))
+pub ending_of_cases-requires-clause-lawful : goal.ending_of_cases-requires-clause-lawful
+ending_of_cases-requires-clause-lawful g c = (cases_asked false (map string_bytes c.args.words.now) _ _ _ _ c.in-Ok-System.field-0-is c.in-Ok-System.ensures.asked).lawful
 
-pub returns-in-Err-NotACommand-clause-leaves_fault : goal.returns-in-Err-NotACommand-clause-leaves_fault
-returns-in-Err-NotACommand-clause-leaves_fault g c = unread_leaves_all_fault (map string_bytes c.args.words.now) _ _ (no_reader (map string_bytes c.args.words.now) (c.in-Err-NotACommand.ensures.refused (ap Err c.in-Err-NotACommand.field-0-is)))
+pub ending_of_cases-requires-clause-width : goal.ending_of_cases-requires-clause-width
+ending_of_cases-requires-clause-width g c = (cases_asked false (map string_bytes c.args.words.now) _ _ _ _ c.in-Ok-System.field-0-is c.in-Ok-System.ensures.asked).width
 
--- without memory for the words nothing was read
-pub returns-in-Err-Memory-clause-leaves_fault : goal.returns-in-Err-Memory-clause-leaves_fault
-returns-in-Err-Memory-clause-leaves_fault g c status h = unread_leaves alone (map string_bytes c.args.words.now) _ status (of_two ReadFault OutOfMemory status h)
+pub returns-in-Ok-clause-expected : goal.returns-in-Ok-clause-expected
+returns-in-Ok-clause-expected g c = cases_expected false (map string_bytes c.args.words.now) _ _ _ (cases_asked false (map string_bytes c.args.words.now) _ _ _ _ c.in-Ok-System.field-0-is c.in-Ok-System.ensures.asked) _ c.in-Ok.ensures
 
--- a system is made, and nothing is read
-pub returns-in-Some-clause-leaves : goal.returns-in-Some-clause-leaves
-returns-in-Some-clause-leaves g c = unread_leaves_all (map string_bytes c.args.words.now) _ _ c.made_ending.ensures.unread
+pub returns-in-Ok-clause-answered : goal.returns-in-Ok-clause-answered
+returns-in-Ok-clause-answered g c = λ status. cases_answered false (map string_bytes c.args.words.now) _ _ _ (cases_asked false (map string_bytes c.args.words.now) _ _ _ _ c.in-Ok-System.field-0-is c.in-Ok-System.ensures.asked) _ c.in-Ok.ensures
 
-pub returns-in-Some-clause-leaves_fault : goal.returns-in-Some-clause-leaves_fault
-returns-in-Some-clause-leaves_fault g c = unread_leaves_all_fault (map string_bytes c.args.words.now) _ _ c.made_ending.ensures.unread
+pub returns-in-Ok-clause-usage : goal.returns-in-Ok-clause-usage
+returns-in-Ok-clause-usage g c = λ e. absurd (cases_not_usage false (map string_bytes c.args.words.now) _ _ _ (cases_asked false (map string_bytes c.args.words.now) _ _ _ _ c.in-Ok-System.field-0-is c.in-Ok-System.ensures.asked) _ c.in-Ok.ensures e)
+
+pub returns-in-Ok-clause-words : goal.returns-in-Ok-clause-words
+returns-in-Ok-clause-words g c = λ none. absurd (are_of_command false (map string_bytes c.args.words.now) _ _ _ (cases_asked false (map string_bytes c.args.words.now) _ _ _ _ c.in-Ok-System.field-0-is c.in-Ok-System.ensures.asked) none)
+
+pub returns-in-Ok-System-clause-leaves_fault : goal.returns-in-Ok-System-clause-leaves_fault
+returns-in-Ok-System-clause-leaves_fault g c = λ status h. c.in-Ok-System.ensures.leaves status

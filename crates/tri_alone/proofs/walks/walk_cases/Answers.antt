@@ -3,7 +3,7 @@ use Rattle.std.proofs.Common.{ap, length, sym, subst, ◌∙◌}
 use Rattle.std.proofs.lemmas.List.{length-map}
 use Rattle.mono_words.specs.declared.mono.TheConstants.{VARS}
 use Rattle.solver_reports.specs.Growth.{IsPrintableLeaf}
-use Rattle.tri_alone.proofs.Printable.{lawful_printable}
+use Rattle.solver_rules.proofs.Printable.{lawful_printable}
 use Rattle.tri_alone.proofs.walks.walk_cases.Goals as goal
 
 pub walk-requires-clause-printable : goal.walk-requires-clause-printable
