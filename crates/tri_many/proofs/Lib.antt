@@ -1,0 +1,11 @@
+mod Premises
+mod Lines
+mod Fronts
+mod Taken
+mod Printed
+mod Printers
+mod Counted
+mod Endings
+mod Reports
+mod Answered
+mod Runs

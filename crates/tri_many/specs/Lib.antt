@@ -1,0 +1,4 @@
+pub mod Many
+pub mod Printing
+pub mod Answers
+pub mod Early

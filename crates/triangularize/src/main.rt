@@ -1,0 +1,33 @@
+//! Reads a system from standard input and writes its chains to standard output, with several workers.
+#![tactic(auto)]
+
+use std::process::ExitCode;
+use std::{env, io};
+use tri_io::{StdSink, StdSource};
+use tri_many::{Status, run_many};
+
+// The status where the runtime can't give the words of the command line.
+const NO_WORDS: u8 = 8;
+
+/// The words of the command line without the program's name.
+fn words_of(rt: &HostRuntime) -> io::Result<Vec<String>> {
+    let mut words = Vec::new(rt.alloc());
+    for word in env::args(rt)?.skip(1) {
+        words.push(word)?;
+    }
+    Ok(words)
+}
+
+fn main(rt: HostRuntime) -> ExitCode {
+    let words = match words_of(&rt) {
+        Ok(words) => words,
+        Err(error) if error.kind() == io::ErrorKind::OutOfMemory => {
+            return ExitCode::from(Status::OutOfMemory.number());
+        }
+        Err(_) => return ExitCode::from(NO_WORDS),
+    };
+    let mut source = StdSource::new(rt.stdin());
+    let mut sink = StdSink::new(rt.stdout());
+    let status = run_many(rt, rt.alloc(), &words, &mut source, &mut sink);
+    ExitCode::from(status.number())
+}
