@@ -23,3 +23,5 @@ mod limit_tests;
 mod meeting_tests;
 #[cfg(test)]
 mod tests;
+#[cfg(test)]
+mod tree_tests;
