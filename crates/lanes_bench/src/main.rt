@@ -12,9 +12,10 @@ use counts::Counts;
 use round::round;
 use std::{env, io};
 
-/// How many numbers each thread has in a round where no word says it, and how many rounds there are.
+/// How many numbers each thread has in a round where no word says it.
 const NUMBERS: u32 = 500;
 
+/// How many rounds there are where no word says it.
 const ROUNDS: u32 = 2;
 
 fn word_at(rt: &HostRuntime, place: usize, other: u32) -> io::Result<u32> {

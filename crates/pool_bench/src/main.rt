@@ -16,7 +16,8 @@ const MOST: u32 = 2_000;
 /// How many trees are walked where no word says it.
 const TREES: u32 = 8;
 
-/// The words of the command line without the program's name: the greatest number, and how many trees.
+/// The words of the command line without the program's name: the greatest number, and how many
+/// trees.
 fn words_of(rt: &HostRuntime) -> io::Result<Vec<String>> {
     let mut words = Vec::new(rt.alloc());
     for word in env::args(rt)?.skip(1) {

@@ -4,8 +4,9 @@ ghost use Rattle.report_text.specs.Lines.{end_line, stopped_line};
 ghost use Rattle.report_text.specs.Answers.{leaf_text, nonzero_text};
 ghost use Rattle.solver_reports.specs.Growth.{IsPrintableLeaf, IsPrintableEvent, Grows};
 
+use crate::nonzero::nonzero_lines;
 use certificates::Leaf;
-use report_text::{print_chain, print_end, print_nonzero, print_stopped};
+use report_text::{print_chain, print_end, print_stopped};
 use sparse_poly::{Names, Polys};
 use split_paths::{Event, Outcome, Path, Why};
 use std::alloc::{AllocError, Global};
@@ -35,12 +36,10 @@ impl Report {
             report.text ≡ nonzero_text (map string_bytes names.now) nonzero.now) }
         ensures count { IfOk result (λ report. report.count ≡ 0) }
     {
-        let mut text = String::new(alloc);
-        for i in 0..nonzero.count() {
-            let line = print_nonzero(alloc, names, nonzero.at(i))?;
-            text.push_str(line.as_str())?;
-        }
-        Ok(Report { text, count: 0 })
+        Ok(Report {
+            text: nonzero_lines(alloc, names, nonzero)?,
+            count: 0,
+        })
     }
 
     /// Takes the next event of the tree. Answers whether the report ends here, at a branch that was

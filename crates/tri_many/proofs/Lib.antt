@@ -1,5 +1,4 @@
 mod Premises
-mod Lines
 mod Fronts
 mod Taken
 mod Printed

@@ -3,7 +3,6 @@
 
 mod answer;
 mod counter;
-mod nonzero;
 mod output;
 mod printer;
 mod report;

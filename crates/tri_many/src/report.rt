@@ -4,12 +4,12 @@ ghost use Rattle.std.specs.Io.KnownBytes.{Appends};
 ghost use Rattle.tri_many.specs.Early.{HasPrinted, HasWritten, IsCutShort, end_line_of};
 ghost use Rattle.tri_many.specs.Answers.{IsRootOf, answer_in, chains_text, ending_text};
 
-use crate::nonzero::nonzero_lines;
 use crate::output::{Fault, is_stopped, put};
 use crate::printer::Printer;
 use crate::watch::{Watch, WatchedCases};
 use chains::Task;
 use report_text::{print_end, print_stopped};
+use solver_reports::nonzero_lines;
 use sparse_poly::{Names, System};
 use std::alloc::{AllocError, Global};
 use std::sync::{Arc, Wait};

@@ -1,7 +1,7 @@
 -- What was written and what is to come are all lines.
 use Rattle.std.proofs.Common.{◌≡◌, ◌++◌, map, drop, string_bytes}
 use Rattle.report_text.specs.Answers.{nonzero_text}
-use Rattle.tri_many.proofs.nonzero.nonzero_lines.Given as goal
+use Rattle.solver_reports.proofs.nonzero.nonzero_lines.Given as goal
 
 abbrev pub invariant-loop-i : goal.invariant-loop-i
 invariant-loop-i l =
