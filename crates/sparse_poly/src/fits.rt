@@ -23,7 +23,10 @@ pub fn degrees(terms: &[(Mono, u32)]) -> Mono
 {
     let mut degrees = Mono::one();
     for t in terms {
-        degrees = degrees.max_exponents(t.0);
+        // Mostly a further term has no greater exponent.
+        if !t.0.divides(degrees) {
+            degrees = degrees.max_exponents(t.0);
+        }
     }
     degrees
 }
