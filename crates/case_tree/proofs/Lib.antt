@@ -1,4 +1,5 @@
 mod Remainders
 mod Inputs
 mod Roots
+mod Ranks
 mod TestTasks

@@ -4,7 +4,8 @@ use Rattle.mono_words.specs.declared.mono.TheConstants.{VARS}
 use Rattle.zero_sets.specs.Domains.{Tables, IsPointOver}
 use Rattle.zero_sets.specs.ZeroSets.{InZeroSet}
 use Rattle.zero_sets.specs.Tasks.{Task, InTask}
-use Rattle.finish_rules.specs.Leaves.{InLeaf}
+use Rattle.split_paths.specs.declared.splitter.Step.{Step}
+use Rattle.finish_rules.specs.Leaves.{Leaf, InLeaf}
 use Rattle.tree_laws.specs.Points.{IsKeptBy, IfEmitted}
 use Rattle.case_laws.specs.Laws.{IsSoundLeaf}
 use Rattle.rank_laws.specs.Kids.{EachKid}
@@ -29,10 +30,14 @@ EmitsCommonZerosAlone =
     → IsTaskOf cases task
     → IfEmitted (IsSoundLeaf (polynomial_system_of cases.system)) (step_of cases task)
 
--- each child of the step of a task of the system has less rank than the task
+-- each child of this step has less rank than the task
+abbrev pub LowersTheRank : CaseSystem → Task → Step Task Leaf → Type 0
+LowersTheRank cases task =
+    EachKid (HasLessRank cases.system.prime VARS (length cases.system.names) cases.width task)
+
+-- so it is of the step of each task of the system
 abbrev pub StepsLowerTheRank : Type 0
 StepsLowerTheRank =
     (cases : CaseSystem) (task : Task)
     → IsTaskOf cases task
-    → EachKid (HasLessRank cases.system.prime VARS (length cases.system.names) cases.width task)
-    (step_of cases task)
+    → LowersTheRank cases task (step_of cases task)

@@ -6,7 +6,7 @@ ghost use Rattle.system_text.specs.Laws.{IsSystem};
 ghost use Rattle.system_parser.specs.Systems.{text_system_of};
 ghost use Rattle.case_rules.specs.Cases.{root_task};
 ghost use Rattle.case_laws.specs.Laws.{HasSolutions};
-ghost use Rattle.case_tree.specs.Systems.{IsTaskOf, polynomial_system_of};
+ghost use Rattle.case_tree.specs.Systems.{IsTaskOf, polynomial_system_of, step_of};
 
 use crate::finish::finish;
 use crate::root::root_of;
@@ -70,6 +70,19 @@ impl Cases {
         root_of(alloc, &self.system)
     }
 
+    /// Imposes the first polynomial of the queue, or finishes the task where none is left.
+    fn step(&self, alloc: Global, task: Task) -> Result<Step<Task, Leaf>, AllocError>
+        requires { IsTaskOf self.now task }
+        ensures { IfOk result (λ made. made ≡ step_of self.now task) }
+    {
+        let w = self.work();
+        if task.queue.is_empty() {
+            finish(alloc, &w, &self.system.inputs, task)
+        } else {
+            impose(alloc, w, task)
+        }
+    }
+
     /// The field and the width.
     fn work(&self) -> Work
         ensures field { result.field ≡ self.now.system.prime }
@@ -100,6 +113,7 @@ impl Splitter for Cases {
     ghost use Rattle.mono_words.specs.declared.mono.TheConstants.{VARS};
     ghost use Rattle.case_laws.proofs.StepsKeepLaw.{system_steps_keep_law};
     ghost use Rattle.case_tree.specs.Systems.{IsTaskOf, IsLeafOf, polynomial_system_of, step_of};
+    ghost use Rattle.case_tree.specs.Laws.{LowersTheRank};
 
     ghost step = { step_of };
 
@@ -110,12 +124,13 @@ impl Splitter for Cases {
     ghost keeps_lawful = { λ cases task lawful. system_steps_keep_law VARS
         (length cases.system.names) cases.width (polynomial_system_of cases.system) task lawful };
 
-    fn expand(&self, alloc: Global, task: Task) -> Result<Step<Task, Leaf>, AllocError> {
-        let w = self.work();
-        if task.queue.is_empty() {
-            finish(alloc, &w, &self.system.inputs, task)
-        } else {
-            impose(alloc, w, task)
-        }
+    fn expand(&self, alloc: Global, task: Task) -> Result<Step<Task, Leaf>, AllocError>
+        requires { IsTaskOf self.now task }
+        ensures step { IfOk result (λ made. made ≡ step_of self.now task) }
+
+        // So no branch goes on for ever.
+        ensures rank { IfOk result (LowersTheRank self.now task) }
+    {
+        self.step(alloc, task)
     }
 }
