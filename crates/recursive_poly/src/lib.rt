@@ -1,0 +1,14 @@
+//! Polynomials seen by their powers of one variable, and the elimination of that variable's lead.
+#![tactic(auto)]
+
+mod elimination;
+mod fits;
+mod laws;
+mod rec_poly;
+
+pub use elimination::eliminate_rec;
+pub use laws::coefficients_determine;
+pub use rec_poly::RecPoly;
+
+
+
