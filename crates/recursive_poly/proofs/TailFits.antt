@@ -1,14 +1,13 @@
 -- Where a product by all of a polynomial fits, the product by its tail does.
-use Rattle.std.proofs.Common.{◌≡◌, ◌↔◌, ℕ, ◌*◌, ◌+◌, ◌≤◌, Bool, true, false, cond, eqb, List, [], ◌∷◌, length, Option, Some, None, IsNone, IfSome, IfOk, Result, Ok, Err, refl, sym, ap, ◌∙◌, inl, inr, arith}
+use Rattle.std.proofs.Common.{◌≡◌, ◌↔◌, ℕ, ◌*◌, ◌+◌, ◌≤◌, Bool, true, false, cond, eqb, List, [], ◌∷◌, length, ap, inl, inr, arith}
 use Rattle.std.proofs.Math.Nat.{mul-le-mul_left}
 use Rattle.polynomials.specs.Monomials.{exponent_of}
-use Rattle.polynomials.specs.Polynomials.{Term, Polynomial, product_of}
+use Rattle.polynomials.specs.Polynomials.{Term, Polynomial}
 use Rattle.polynomials.specs.Views.{degree_in, without_power, tail_in}
 use Rattle.polynomials.specs.Fits.{fits}
 use Rattle.polynomials.proofs.Coefficients.{EachMonomial-without_power}
 use Rattle.polynomials.proofs.Degrees.{DegreeAtMost-itself, degree_in-from_bound}
 use Rattle.polynomials.proofs.FitsLemmas.{fits_in_each_variable}
-use Rattle.recursive_poly.specs.Tails.{times_tail_within}
 
 -- without a power there are no more terms
 length-without_power : (v k : ℕ) (f : List Term) → length (without_power v k f) ≤ length f
@@ -35,16 +34,3 @@ fits-tail_in w v a f fit = (fits_in_each_variable w a (tail_in v f)).1 (elim ((f
     ))
   ]
 ])
-
--- what a product within the width gives where it fits
-fitting_product : (r : Option Polynomial) (fit : Bool) (made : Polynomial) → (IsNone r ↔ (fit ≡ false)) → IfSome r (λ g. g ≡ made) → fit ≡ true → r ≡ Some made
-fitting_product None fit made none some passes = let gone = none.0 refl in cc
-fitting_product (Some g) fit made none some passes = ap Some some
-
--- a product by the tail t, where that by the whole fits
-pub times_tail-value : {E : Type 0} (r : Result (Option Polynomial) E) (p w v : ℕ) (a f t : Polynomial) → fits w a f ≡ true → t ≡ tail_in v f → IfOk r (λ x. IsNone x ↔ (fits w a t ≡ false)) → IfOk r (λ x. IfSome x (λ g. g ≡ product_of p a t)) → IfOk r (λ x. x ≡ times_tail_within p w v a f)
-times_tail-value (Err e) p w v a f t fit is none some = tt
-times_tail-value (Ok x) p w v a f t fit is none some =
-    fitting_product x (fits w a t) (product_of p a t) none some (ap (fits w a) is ∙ fits-tail_in w v a f fit)
-    ∙ (ap (λ s. Some (product_of p a s)) is
-    ∙ sym (ap (λ b. elim b as (λ _. Option Polynomial) [ true ↦ Some (product_of p a (tail_in v f)) | false ↦ None ]) fit))

@@ -17,8 +17,7 @@ use Rattle.sparse_poly.proofs.Products.{product_of-term}
 use Rattle.division_rules.specs.Operations.{Operations, shifted_lead}
 use Rattle.division_rules.specs.Lists.{list_operations}
 use Rattle.division_rules.specs.Rows.{Row, plain, cross}
-use Rattle.division_rules.specs.Within.{and_then, row_within, elimination_within}
-use Rattle.recursive_poly.specs.Tails.{times_tail_within}
+use Rattle.division_rules.specs.Within.{and_then, times_within, row_within, elimination_within}
 
 -- powers of one variable multiply by adding their exponents
 power_monomial-product : (n v a b : ℕ) → monomial_product (power_monomial n v a) (power_monomial n v b) ≡ power_monomial n v (a + b)
@@ -81,17 +80,16 @@ module _ (p n v : ℕ) (f g : Polynomial) (prime : IsPrime p) (below : v < n) (i
       (tails_left (polynomial_ring p n prime.many) (l, of_g.lead) (lead_in v f, of_f.lead) (variable_power n v (degree_in v f - degree_in v g), IsPolynomial-variable_power p n v (degree_in v f - degree_in v g) prime.many) (variable_power n v (degree_in v g), IsPolynomial-variable_power p n v (degree_in v g) prime.many) (tail_in v f, of_f.tail) (tail_in v g, of_g.tail))
 
   -- so it is the difference of the products by the tails, where those by the whole fit
-  elimination_within_by_tails : (w : ℕ) → and_then (times_tail_within p w v l f) (λ x. and_then (times_tail_within p w v m g) (λ y. Some (plain (difference_of p x y)))) ≡ elimination_within o w v (plain f) (plain g)
-  elimination_within_by_tails w = go (fits w l f) (fits w m g)
+  pub eliminated_within : (w : ℕ) (a b h : Polynomial) → a ≡ l → b ≡ m → fits w a f ≡ true → fits w b g ≡ true → h ≡ difference_of p (product_of p a (tail_in v f)) (product_of p b (tail_in v g)) → Some (plain h) ≡ elimination_within o w v (plain f) (plain g)
+  eliminated_within w a b h a_is b_is first second is =
+      ap (λ z. Some (plain z)) (is ∙ (ap₂ (λ x y. difference_of p (product_of p x (tail_in v f)) (product_of p y (tail_in v g))) a_is b_is ∙ sym elimination_by_tails))
+      ∙ go (fits w l f) (fits w m g) (ap (λ z. fits w z f) (sym a_is) ∙ first) (ap (λ z. fits w z g) (sym b_is) ∙ second)
     where
-      go : (a b : Bool) → and_then (elim a as (λ _. Option Polynomial) [ true ↦ Some (product_of p l (tail_in v f)) | false ↦ None ]) (λ x. and_then (elim b as (λ _. Option Polynomial) [ true ↦ Some (product_of p m (tail_in v g)) | false ↦ None ]) (λ y. Some (plain (difference_of p x y)))) ≡ row_within o w (and_then (elim a as (λ _. Option Polynomial) [ true ↦ Some (product_of p l f) | false ↦ None ]) (λ x. and_then (elim b as (λ _. Option Polynomial) [ true ↦ Some (product_of p m g) | false ↦ None ]) (λ y. Some (difference_of p x y)))) (Some [])
-      go true true = ap (λ x. Some (plain x)) (sym elimination_by_tails)
-      go true false = refl
-      go false b = refl
+      go : (c d : Bool) → c ≡ true → d ≡ true → Some (plain (cross o l m f g)) ≡ row_within o w (and_then (elim c as (λ _. Option Polynomial) [ true ↦ Some (product_of p l f) | false ↦ None ]) (λ x. and_then (elim d as (λ _. Option Polynomial) [ true ↦ Some (product_of p m g) | false ↦ None ]) (λ y. Some (difference_of p x y)))) (Some [])
+      go true true first second = refl
+      go true false first second = cc
+      go false d first second = cc
 
-  -- the same, by the leads and the products that were made
-  pub eliminated_within : (w : ℕ) (a b x y h : Polynomial) → a ≡ l → b ≡ m → Some x ≡ times_tail_within p w v a f → Some y ≡ times_tail_within p w v b g → h ≡ difference_of p x y → Some (plain h) ≡ elimination_within o w v (plain f) (plain g)
-  eliminated_within w a b x y h a_is b_is left right is =
-      ap (λ z. Some (plain z)) is
-      ∙ (ap₂ (λ c d. and_then c (λ z. and_then d (λ u. Some (plain (difference_of p z u))))) (left ∙ ap (λ z. times_tail_within p w v z f) a_is) (right ∙ ap (λ z. times_tail_within p w v z g) b_is)
-      ∙ elimination_within_by_tails w)
+-- where a product by all doesn't fit, there is no elimination
+pub not_eliminated : (p n w v : ℕ) (f g a : Polynomial) → a ≡ lead_in v g → fits w a f ≡ false → None ≡ elimination_within (list_operations p n) w v (plain f) (plain g)
+not_eliminated p n w v f g a a_is wide = ap (λ c. row_within (list_operations p n) w (and_then (elim c as (λ _. Option Polynomial) [ true ↦ Some (product_of p (lead_in v g) f) | false ↦ None ]) (λ x. and_then (times_within (list_operations p n) w (shifted_lead (list_operations p n) v f g) g) (λ y. Some (difference_of p x y)))) (Some [])) (sym (ap (λ z. fits w z f) (sym a_is) ∙ wide))

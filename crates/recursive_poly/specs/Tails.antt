@@ -1,10 +1,15 @@
--- Products with the tail of a polynomial, which fit as the products with all of it do.
-use Rattle.std.specs.Prelude.{ℕ, true, false, Option, Some, None}
-use Rattle.polynomials.specs.Polynomials.{Polynomial, product_of}
+-- What is left of an elimination where both multiples have the same lead.
+use Rattle.std.specs.Prelude.{ℕ}
+use Rattle.polynomials.specs.Polynomials.{Polynomial, product_of, difference_of}
 use Rattle.polynomials.specs.Views.{tail_in}
-use Rattle.polynomials.specs.Fits.{fits}
+use Rattle.recursive_poly.specs.Recursive.{RecursivePolynomial, whole}
 
--- a times the tail of f in v, where a times f fits the width w
-abbrev pub times_tail_within : ℕ → ℕ → ℕ → Polynomial → Polynomial → Option Polynomial
-times_tail_within p w v a f =
-    elim (fits w a f) [ true ↦ Some (product_of p a (tail_in v f)) | false ↦ None ]
+-- the terms of f with less than the greatest power of its variable
+abbrev pub tail_of : RecursivePolynomial → Polynomial
+tail_of f = tail_in f.variable (whole f)
+
+-- l times the tail of f, less m times the tail of g
+abbrev pub tails_difference :
+    ℕ → Polynomial → RecursivePolynomial → Polynomial → RecursivePolynomial → Polynomial
+tails_difference p l f m g =
+    difference_of p (product_of p l (tail_of f)) (product_of p m (tail_of g))

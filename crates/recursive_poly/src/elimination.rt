@@ -1,5 +1,5 @@
-ghost use Rattle.std.specs.Prelude.{◌≡◌, ◌≤◌, true, false, Some, None, IfOk, IfSome, option_map};
-ghost use Rattle.polynomials.specs.Polynomials.{IsPolynomial, product_of};
+ghost use Rattle.std.specs.Prelude.{◌≡◌, ◌≤◌, true, IfOk, IfSome, option_map};
+ghost use Rattle.polynomials.specs.Polynomials.{IsPolynomial, product_of, difference_of};
 ghost use Rattle.polynomials.specs.Views.{degree_in, tail_in};
 ghost use Rattle.polynomials.specs.Fits.{fits};
 ghost use Rattle.division_rules.specs.Operations.{shifted_lead};
@@ -7,17 +7,23 @@ ghost use Rattle.division_rules.specs.Lists.{list_operations};
 ghost use Rattle.division_rules.specs.Rows.{plain};
 ghost use Rattle.division_rules.specs.Within.{elimination_within};
 ghost use Rattle.recursive_poly.specs.Recursive.{whole};
-ghost use Rattle.recursive_poly.specs.Tails.{times_tail_within};
+ghost use Rattle.recursive_poly.specs.Tails.{tail_of, tails_difference};
 
 use crate::fits::fits;
+use crate::multiples::sum_of_multiples;
 use crate::rec_poly::RecPoly;
 use mono_words::VARS;
 use sparse_poly::{Poly, Work};
-use std::alloc::AllocError;
+use std::alloc::{AllocError, Global};
 
 /// The lead of `g` times `f`, less the multiple of `g` with the same lead, and `None` where one of
 /// the two products doesn't fit the width.
-pub fn eliminate_rec(w: Work, f: &RecPoly, g: &RecPoly) -> Result<Option<RecPoly>, AllocError>
+pub fn eliminate_rec(
+    alloc: Global,
+    w: Work,
+    f: &RecPoly,
+    g: &RecPoly,
+) -> Result<Option<RecPoly>, AllocError>
     requires variable { f.now.variable ≡ g.now.variable }
     requires left { IsPolynomial w.field VARS (whole f.now) }
     requires right { IsPolynomial w.field VARS (whole g.now) }
@@ -30,17 +36,17 @@ pub fn eliminate_rec(w: Work, f: &RecPoly, g: &RecPoly) -> Result<Option<RecPoly
 {
     w.field.facts();
     let v = f.variable();
-    // The leads of both multiples are the same, so that the tails are enough.
     let l = g.lead()?;
-    let Some(left) = times_tail(&w, &l, f)? else {
+    if !fits(w.width, &l, f.as_poly()) {
         return Ok(None);
-    };
+    }
     let m = shifted_lead(&w, f, g)?;
-    let Some(right) = times_tail(&w, &m, g)? else {
+    if !fits(w.width, &m, g.as_poly()) {
         return Ok(None);
-    };
-    let difference = left.sub(w.field, &right)?;
-    Ok(Some(RecPoly::from_poly(difference, v)))
+    }
+    // Both multiples have the same lead, so that their tails are enough.
+    let h = difference_of_tails(alloc, &w, &l, f, &m, g)?;
+    Ok(Some(RecPoly::from_poly(h, v)))
 }
 
 /// The lead of `f`, times the variable to the power by which its degree passes that of `g`.
@@ -55,15 +61,86 @@ fn shifted_lead(w: &Work, f: &RecPoly, g: &RecPoly) -> Result<Poly, AllocError>
     f.lead()?.times_power(w.field, f.variable(), f.degree() - g.degree())
 }
 
-/// `a` times the tail of `f`, and `None` where the product of `a` by all of `f` doesn't fit the width.
-fn times_tail(w: &Work, a: &Poly, f: &RecPoly) -> Result<Option<Poly>, AllocError>
-    requires left { IsPolynomial w.now.field VARS a.now }
-    requires right { IsPolynomial w.now.field VARS (whole f.now) }
-    ensures value { IfOk result (λ r. r ≡ times_tail_within w.now.field w.now.width f.now.variable a.now (whole f.now)) }
+/// `l` times the tail of `f` less `m` times that of `g`.
+fn difference_of_tails(
+    alloc: Global,
+    w: &Work,
+    l: &Poly,
+    f: &RecPoly,
+    m: &Poly,
+    g: &RecPoly,
+) -> Result<Poly, AllocError>
+    requires lead { IsPolynomial w.now.field VARS l.now }
+    requires shifted { IsPolynomial w.now.field VARS m.now }
+    requires left { IsPolynomial w.now.field VARS (whole f.now) }
+    requires right { IsPolynomial w.now.field VARS (whole g.now) }
+    requires left_fits { fits w.now.width l.now (whole f.now) ≡ true }
+    requires right_fits { fits w.now.width m.now (whole g.now) ≡ true }
+    ensures value { IfOk result (λ h. h ≡ tails_difference w.now.field l.now f.now m.now g.now) }
+    ensures over { IfOk result (IsPolynomial w.now.field VARS) }
+{
+    match in_one_pass(alloc, w, l, f, m, g)? {
+        Some(h) => Ok(h),
+        None => by_products(w, l, f, m, g),
+    }
+}
+
+/// The same without a copy of the tails and in one pass;
+/// `None` where `l` or `m` has several terms, or a tail is no part of its vector.
+fn in_one_pass(
+    alloc: Global,
+    w: &Work,
+    l: &Poly,
+    f: &RecPoly,
+    m: &Poly,
+    g: &RecPoly,
+) -> Result<Option<Poly>, AllocError>
+    requires lead { IsPolynomial w.now.field VARS l.now }
+    requires shifted { IsPolynomial w.now.field VARS m.now }
+    requires left { IsPolynomial w.now.field VARS (whole f.now) }
+    requires right { IsPolynomial w.now.field VARS (whole g.now) }
+    requires left_fits { fits w.now.width l.now (whole f.now) ≡ true }
+    requires right_fits { fits w.now.width m.now (whole g.now) ≡ true }
+    ensures value { IfOk result (λ r. IfSome r (λ h.
+        h ≡ tails_difference w.now.field l.now f.now m.now g.now)) }
     ensures over { IfOk result (λ r. IfSome r (IsPolynomial w.now.field VARS)) }
 {
-    if !fits(w.width, a, f.as_poly()) {
+    if l.term_count() != 1 || m.term_count() != 1 {
         return Ok(None);
     }
-    a.mul(*w, &f.tail()?)
+    let (Some(a), Some(b)) = (f.tail_terms(), g.tail_terms()) else {
+        return Ok(None);
+    };
+    let (t, u) = (l.terms()[0], m.terms()[0]);
+    let terms = sum_of_multiples(alloc, w.field, t, a, (u.0, w.field.neg(u.1)), b)?;
+    Ok(Some(Poly::over(w.field, terms)))
+}
+
+/// The same by products of whole polynomials.
+fn by_products(w: &Work, l: &Poly, f: &RecPoly, m: &Poly, g: &RecPoly) -> Result<Poly, AllocError>
+    requires lead { IsPolynomial w.now.field VARS l.now }
+    requires shifted { IsPolynomial w.now.field VARS m.now }
+    requires left { IsPolynomial w.now.field VARS (whole f.now) }
+    requires right { IsPolynomial w.now.field VARS (whole g.now) }
+    requires left_fits { fits w.now.width l.now (whole f.now) ≡ true }
+    requires right_fits { fits w.now.width m.now (whole g.now) ≡ true }
+    ensures value { IfOk result (λ h. h ≡ tails_difference w.now.field l.now f.now m.now g.now) }
+    ensures over { IfOk result (IsPolynomial w.now.field VARS) }
+{
+    times_tail(w, l, f)?.sub(w.field, &times_tail(w, m, g)?)
+}
+
+/// `a` times the tail of `f`, which fits where `a` times `f` does.
+fn times_tail(w: &Work, a: &Poly, f: &RecPoly) -> Result<Poly, AllocError>
+    requires left { IsPolynomial w.now.field VARS a.now }
+    requires right { IsPolynomial w.now.field VARS (whole f.now) }
+    requires fit { fits w.now.width a.now (whole f.now) ≡ true }
+    ensures value { IfOk result (λ r. r ≡ product_of w.now.field a.now (tail_of f.now)) }
+    ensures over { IfOk result (IsPolynomial w.now.field VARS) }
+{
+    let tail = f.tail()?;
+    match a.mul(*w, &tail)? {
+        Some(product) => Ok(product),
+        None => unreachable!(),
+    }
 }

@@ -4,6 +4,8 @@
 mod elimination;
 mod fits;
 mod laws;
+mod lead_end;
+mod multiples;
 mod rec_poly;
 
 pub use elimination::eliminate_rec;

@@ -1,9 +1,10 @@
-ghost use Rattle.std.specs.Prelude.{◌≡◌, ◌<◌, ◌≤◌, ◌^◌, ℕ, IfOk};
+ghost use Rattle.std.specs.Prelude.{◌≡◌, ◌<◌, ◌≤◌, ◌^◌, ℕ, IfOk, IfSome};
 ghost use Rattle.polynomials.specs.Polynomials.{IsPolynomial};
 ghost use Rattle.polynomials.specs.Views.{degree_in, lead_in, tail_in};
 ghost use Rattle.recursive_poly.specs.Recursive.{recursive_in, whole};
 
-use mono_words::VARS;
+use crate::lead_end::{is_free_above, lead_end};
+use mono_words::{Mono, VARS};
 use sparse_poly::Poly;
 use std::alloc::AllocError;
 use std::marker::Model;
@@ -97,5 +98,17 @@ impl RecPoly {
         ensures over { (p : ℕ) → IsPolynomial p VARS (whole self.now) → IfOk result (IsPolynomial p VARS) }
     {
         self.as_poly().tail_in(self.variable())
+    }
+
+    /// The same terms as a part of the vector, where no variable greater than this one occurs.
+    pub(crate) fn tail_terms(&self) -> Option<&[(Mono, u32)]>
+        ensures { IfSome result (λ r. r.now ≡ tail_in self.now.variable (whole self.now)) }
+    {
+        let (f, v) = (self.as_poly(), self.variable());
+        if !is_free_above(f, v) {
+            return None;
+        }
+        let end = lead_end(f, v);
+        Some(&f.terms()[end..])
     }
 }
