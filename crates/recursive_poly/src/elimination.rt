@@ -27,10 +27,12 @@ pub fn eliminate_rec(
     requires variable { f.now.variable ≡ g.now.variable }
     requires left { IsPolynomial w.field VARS (whole f.now) }
     requires right { IsPolynomial w.field VARS (whole g.now) }
-    requires degrees { degree_in g.now.variable (whole g.now) ≤ degree_in f.now.variable (whole f.now) }
+    requires degrees { degree_in g.now.variable (whole g.now)
+        ≤ degree_in f.now.variable (whole f.now) }
     requires occurs { 1 ≤ degree_in g.now.variable (whole g.now) }
-    ensures value { IfOk result (λ r. option_map (λ h. plain (whole h)) r ≡ elimination_within
-        (list_operations w.field VARS) w.width f.now.variable (plain (whole f.now)) (plain (whole g.now))) }
+    ensures value { IfOk result (λ r. option_map (λ h. plain (whole h)) r
+        ≡ elimination_within (list_operations w.field VARS) w.width f.now.variable
+        (plain (whole f.now)) (plain (whole g.now))) }
     ensures over { IfOk result (λ r. IfSome r (λ h. IsPolynomial w.field VARS (whole h))) }
     ensures variable { IfOk result (λ r. IfSome r (λ h. h.variable ≡ f.now.variable)) }
 {
@@ -53,12 +55,14 @@ pub fn eliminate_rec(
 fn shifted_lead(w: &Work, f: &RecPoly, g: &RecPoly) -> Result<Poly, AllocError>
     requires over { IsPolynomial w.now.field VARS (whole f.now) }
     requires variable { f.now.variable ≡ g.now.variable }
-    requires degrees { degree_in g.now.variable (whole g.now) ≤ degree_in f.now.variable (whole f.now) }
-    ensures value { IfOk result (λ r.
-        r ≡ shifted_lead (list_operations w.now.field VARS) f.now.variable (whole f.now) (whole g.now)) }
+    requires degrees { degree_in g.now.variable (whole g.now)
+        ≤ degree_in f.now.variable (whole f.now) }
+    ensures value { IfOk result (λ r. r ≡ shifted_lead (list_operations w.now.field VARS)
+        f.now.variable (whole f.now) (whole g.now)) }
     ensures over { IfOk result (IsPolynomial w.now.field VARS) }
 {
-    f.lead()?.times_power(w.field, f.variable(), f.degree() - g.degree())
+    f.lead()?
+        .times_power(w.field, f.variable(), f.degree() - g.degree())
 }
 
 /// `l` times the tail of `f` less `m` times that of `g`.

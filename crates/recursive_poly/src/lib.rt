@@ -9,8 +9,8 @@ mod multiples;
 mod rec_poly;
 
 pub use elimination::eliminate_rec;
-pub use laws::coefficients_determine;
+pub use laws::{coefficients_are_free, coefficients_determine, each_list_has_a_polynomial};
 pub use rec_poly::RecPoly;
 
-
-
+#[cfg(test)]
+mod tests;

@@ -87,7 +87,8 @@ impl RecPoly {
     /// The coefficient of the greatest power.
     pub fn lead(&self) -> Result<Poly, AllocError>
         ensures lead { IfOk result (λ r. r ≡ lead_in self.now.variable (whole self.now)) }
-        ensures over { (p : ℕ) → IsPolynomial p VARS (whole self.now) → IfOk result (IsPolynomial p VARS) }
+        ensures over { (p : ℕ) → IsPolynomial p VARS (whole self.now)
+            → IfOk result (IsPolynomial p VARS) }
     {
         self.as_poly().lead_in(self.variable())
     }
@@ -95,7 +96,8 @@ impl RecPoly {
     /// The terms with a smaller power.
     pub(crate) fn tail(&self) -> Result<Poly, AllocError>
         ensures tail { IfOk result (λ r. r ≡ tail_in self.now.variable (whole self.now)) }
-        ensures over { (p : ℕ) → IsPolynomial p VARS (whole self.now) → IfOk result (IsPolynomial p VARS) }
+        ensures over { (p : ℕ) → IsPolynomial p VARS (whole self.now)
+            → IfOk result (IsPolynomial p VARS) }
     {
         self.as_poly().tail_in(self.variable())
     }
