@@ -1,5 +1,5 @@
 -- The polynomial of a list of coefficients has these.
-use Rattle.std.proofs.Common.{◌≡◌, ◌≢◌, ℕ, zero, suc, ◌+◌, ◌-◌, ◌<◌, ◌≤◌, cond, List, [], ◌∷◌, length, get_or, set, Some, refl, sym, ap, ap₂, ◌∙◌, subst, arith}
+use Rattle.std.proofs.Common.{◌≡◌, ◌≢◌, ℕ, zero, suc, ◌+◌, ◌-◌, ◌<◌, ◌≤◌, cond, List, [], ◌∷◌, length, get_or, set, refl, sym, ap, ap₂, ◌∙◌, subst, arith}
 use Rattle.std.specs.Prelude.{slice_get, IfSome}
 use Rattle.std.proofs.lemmas.Bool.{ne_eqb}
 use Rattle.std.proofs.lemmas.List.{ext_get_or}
@@ -16,8 +16,8 @@ use Rattle.polynomials.proofs.Integral.{product_of-zero}
 use Rattle.polynomials.proofs.LeadAndTail.{IsPolynomial-variable_power}
 use Rattle.polynomials.proofs.PolynomialLaws.{sum_of-zero, zero-sum_of, product_of_comm, one_of-product_of}
 use Rattle.polynomials.proofs.VariablePowers.{coefficient_in-variable_power}
-use Rattle.recursive_poly.specs.Recursive.{RecursivePolynomial, coefficient_count, coefficients_in, sum_by_powers, polynomial_of}
-use Rattle.recursive_poly.specs.Laws.{AreCoefficients, HasItsCoefficients, EachListHasAPolynomial}
+use Rattle.recursive_poly.specs.Recursive.{coefficient_count, coefficients_in, sum_by_powers}
+use Rattle.recursive_poly.specs.Laws.{AreCoefficients, EachListHasAPolynomial}
 
 module _ (p n v : ℕ) (many : 1 < p) (below : v < n) where
   positive : 0 < p

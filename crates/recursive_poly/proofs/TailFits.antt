@@ -1,5 +1,5 @@
 -- Where a product by all of a polynomial fits, the product by its tail does.
-use Rattle.std.proofs.Common.{◌≡◌, ◌↔◌, ℕ, ◌*◌, ◌+◌, ◌≤◌, Bool, true, false, cond, eqb, List, [], ◌∷◌, length, ap, inl, inr, arith}
+use Rattle.std.proofs.Common.{◌≡◌, ℕ, ◌≤◌, Bool, true, false, cond, eqb, List, [], ◌∷◌, length, ap, inl, inr, arith}
 use Rattle.std.proofs.Math.Nat.{mul-le-mul_left}
 use Rattle.polynomials.specs.Monomials.{exponent_of}
 use Rattle.polynomials.specs.Polynomials.{Term, Polynomial}

@@ -3,7 +3,7 @@ use Rattle.std.proofs.Common.{◌≡◌, ℕ, zero, suc, ◌+◌, ◌-◌, ◌<�
 use Rattle.std.proofs.Math.Nat.{mod-eq_of_lt}
 use Rattle.std.proofs.lemmas.List.{length-replicate}
 use Rattle.polynomials.specs.Primes.{IsPrime}
-use Rattle.polynomials.specs.Monomials.{Monomial, monomial_product}
+use Rattle.polynomials.specs.Monomials.{monomial_product}
 use Rattle.polynomials.specs.MonomialOrders.{replicate-monomial_product}
 use Rattle.polynomials.specs.Polynomials.{term, Polynomial, IsPolynomial, sum_of, product_of, negative_of, difference_of, variable_power}
 use Rattle.polynomials.specs.Views.{degree_in, lead_in, tail_in}
@@ -16,7 +16,7 @@ use Rattle.polynomials.proofs.PolynomialRing.{CanonicalPolynomial, polynomial_ri
 use Rattle.sparse_poly.proofs.Products.{product_of-term}
 use Rattle.division_rules.specs.Operations.{Operations, shifted_lead}
 use Rattle.division_rules.specs.Lists.{list_operations}
-use Rattle.division_rules.specs.Rows.{Row, plain, cross}
+use Rattle.division_rules.specs.Rows.{plain, cross}
 use Rattle.division_rules.specs.Within.{and_then, times_within, row_within, elimination_within}
 
 -- powers of one variable multiply by adding their exponents

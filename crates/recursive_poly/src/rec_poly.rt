@@ -77,6 +77,14 @@ impl RecPoly {
         self.as_poly().copy()
     }
 
+    /// The polynomial of what isn't needed any more, whose terms stay where they are.
+    pub fn into_poly(self) -> Poly
+        ensures whole { result ≡ whole self }
+        ensures coefficients { recursive_in self.variable result ≡ self }
+    {
+        self.poly
+    }
+
     /// The degree in the variable, and 0 for the polynomial 0.
     pub fn degree(&self) -> u16
         ensures { result ≡ degree_in self.now.variable (whole self.now) }

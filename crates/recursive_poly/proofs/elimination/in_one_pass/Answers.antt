@@ -1,5 +1,5 @@
 -- Single terms are multiplied by the tails as they stand.
-use Rattle.std.proofs.Common.{[], ◌∷◌, sym, subst, ◌∙◌}
+use Rattle.std.proofs.Common.{sym, subst, ◌∙◌}
 use Rattle.mono_words.specs.declared.mono.TheConstants.{VARS}
 use Rattle.polynomials.specs.Polynomials.{IsPolynomial}
 use Rattle.polynomials.specs.Views.{degree_in}

@@ -1,6 +1,5 @@
 -- The terms before the first with another power have the greatest, and none from there on has it.
 use Rattle.std.proofs.Common.{◌≡◌, ◌≢◌, ◌^◌, ◌∙◌, sym, ap, get_or, length, replicate, rules, tests}
-use Rattle.std.specs.List.{AllWithin}
 use Rattle.std.proofs.lemmas.List.{get_or_default}
 use Rattle.std.proofs.lemmas.Iterator.{IsFirst-from_position, YieldsList-from_slice}
 use Rattle.std.proofs.option.Match.{if_some, if_none}

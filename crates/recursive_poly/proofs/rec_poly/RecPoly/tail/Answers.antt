@@ -5,7 +5,6 @@ use Rattle.polynomials.specs.Polynomials.{IsPolynomial}
 use Rattle.polynomials.specs.Views.{degree_in}
 use Rattle.polynomials.proofs.Coefficients.{IsPolynomial-without_power}
 use Rattle.sparse_poly.proofs.SortedTerms.{IfOk-implied}
-use Rattle.recursive_poly.specs.Recursive.{whole}
 use Rattle.recursive_poly.proofs.rec_poly.RecPoly.tail.Goals as goal
 
 pub returns-clause-over : goal.returns-clause-over
