@@ -17,7 +17,7 @@ use Rattle.sparse_poly.proofs.Products.{product_of-term}
 use Rattle.division_rules.specs.Operations.{Operations, shifted_lead}
 use Rattle.division_rules.specs.Lists.{list_operations}
 use Rattle.division_rules.specs.Rows.{plain, cross}
-use Rattle.division_rules.specs.Within.{and_then, times_within, row_within, elimination_within}
+use Rattle.division_rules.specs.Within.{and_then, row_within, elimination_within}
 
 -- powers of one variable multiply by adding their exponents
 power_monomial-product : (n v a b : ℕ) → monomial_product (power_monomial n v a) (power_monomial n v b) ≡ power_monomial n v (a + b)
@@ -89,7 +89,3 @@ module _ (p n v : ℕ) (f g : Polynomial) (prime : IsPrime p) (below : v < n) (i
       go true true first second = refl
       go true false first second = cc
       go false d first second = cc
-
--- where a product by all doesn't fit, there is no elimination
-pub not_eliminated : (p n w v : ℕ) (f g a : Polynomial) → a ≡ lead_in v g → fits w a f ≡ false → None ≡ elimination_within (list_operations p n) w v (plain f) (plain g)
-not_eliminated p n w v f g a a_is wide = ap (λ c. row_within (list_operations p n) w (and_then (elim c as (λ _. Option Polynomial) [ true ↦ Some (product_of p (lead_in v g) f) | false ↦ None ]) (λ x. and_then (times_within (list_operations p n) w (shifted_lead (list_operations p n) v f g) g) (λ y. Some (difference_of p x y)))) (Some [])) (sym (ap (λ z. fits w z f) (sym a_is) ∙ wide))

@@ -1,13 +1,12 @@
-ghost use Rattle.std.specs.Prelude.{◌≡◌, ◌≤◌, true, IfOk, IfSome, option_map};
-ghost use Rattle.polynomials.specs.Polynomials.{IsPolynomial, product_of, difference_of};
-ghost use Rattle.polynomials.specs.Views.{degree_in, tail_in};
-ghost use Rattle.polynomials.specs.Fits.{fits};
+ghost use Rattle.std.specs.Prelude.{◌≡◌, ◌≤◌, IfOk, IfSome, option_map};
+ghost use Rattle.polynomials.specs.Polynomials.{IsPolynomial, product_of};
+ghost use Rattle.polynomials.specs.Views.{degree_in};
 ghost use Rattle.division_rules.specs.Operations.{shifted_lead};
 ghost use Rattle.division_rules.specs.Lists.{list_operations};
 ghost use Rattle.division_rules.specs.Rows.{plain};
 ghost use Rattle.division_rules.specs.Within.{elimination_within};
 ghost use Rattle.recursive_poly.specs.Recursive.{whole};
-ghost use Rattle.recursive_poly.specs.Tails.{tail_of, tails_difference};
+ghost use Rattle.recursive_poly.specs.Tails.{HaveProductWithin, tail_of, tails_difference};
 
 use crate::fits::fits;
 use crate::multiples::sum_of_multiples;
@@ -74,23 +73,19 @@ fn difference_of_tails(
     m: &Poly,
     g: &RecPoly,
 ) -> Result<Poly, AllocError>
-    requires lead { IsPolynomial w.now.field VARS l.now }
-    requires shifted { IsPolynomial w.now.field VARS m.now }
-    requires left { IsPolynomial w.now.field VARS (whole f.now) }
-    requires right { IsPolynomial w.now.field VARS (whole g.now) }
-    requires left_fits { fits w.now.width l.now (whole f.now) ≡ true }
-    requires right_fits { fits w.now.width m.now (whole g.now) ≡ true }
+    requires first { HaveProductWithin w.now.field w.now.width l.now f.now }
+    requires second { HaveProductWithin w.now.field w.now.width m.now g.now }
     ensures value { IfOk result (λ h. h ≡ tails_difference w.now.field l.now f.now m.now g.now) }
     ensures over { IfOk result (IsPolynomial w.now.field VARS) }
 {
     match in_one_pass(alloc, w, l, f, m, g)? {
         Some(h) => Ok(h),
-        None => by_products(w, l, f, m, g),
+        None => times_tail(w, l, f)?.sub(w.field, &times_tail(w, m, g)?),
     }
 }
 
-/// The same without a copy of the tails and in one pass;
-/// `None` where `l` or `m` has several terms, or a tail is no part of its vector.
+/// The same by one pass over the tails as they stand; `None` where `l` or `m` has several terms, or a
+/// tail is no part of its vector.
 fn in_one_pass(
     alloc: Global,
     w: &Work,
@@ -99,12 +94,8 @@ fn in_one_pass(
     m: &Poly,
     g: &RecPoly,
 ) -> Result<Option<Poly>, AllocError>
-    requires lead { IsPolynomial w.now.field VARS l.now }
-    requires shifted { IsPolynomial w.now.field VARS m.now }
-    requires left { IsPolynomial w.now.field VARS (whole f.now) }
-    requires right { IsPolynomial w.now.field VARS (whole g.now) }
-    requires left_fits { fits w.now.width l.now (whole f.now) ≡ true }
-    requires right_fits { fits w.now.width m.now (whole g.now) ≡ true }
+    requires first { HaveProductWithin w.now.field w.now.width l.now f.now }
+    requires second { HaveProductWithin w.now.field w.now.width m.now g.now }
     ensures value { IfOk result (λ r. IfSome r (λ h.
         h ≡ tails_difference w.now.field l.now f.now m.now g.now)) }
     ensures over { IfOk result (λ r. IfSome r (IsPolynomial w.now.field VARS)) }
@@ -120,25 +111,9 @@ fn in_one_pass(
     Ok(Some(Poly::over(w.field, terms)))
 }
 
-/// The same by products of whole polynomials.
-fn by_products(w: &Work, l: &Poly, f: &RecPoly, m: &Poly, g: &RecPoly) -> Result<Poly, AllocError>
-    requires lead { IsPolynomial w.now.field VARS l.now }
-    requires shifted { IsPolynomial w.now.field VARS m.now }
-    requires left { IsPolynomial w.now.field VARS (whole f.now) }
-    requires right { IsPolynomial w.now.field VARS (whole g.now) }
-    requires left_fits { fits w.now.width l.now (whole f.now) ≡ true }
-    requires right_fits { fits w.now.width m.now (whole g.now) ≡ true }
-    ensures value { IfOk result (λ h. h ≡ tails_difference w.now.field l.now f.now m.now g.now) }
-    ensures over { IfOk result (IsPolynomial w.now.field VARS) }
-{
-    times_tail(w, l, f)?.sub(w.field, &times_tail(w, m, g)?)
-}
-
 /// `a` times the tail of `f`, which fits where `a` times `f` does.
 fn times_tail(w: &Work, a: &Poly, f: &RecPoly) -> Result<Poly, AllocError>
-    requires left { IsPolynomial w.now.field VARS a.now }
-    requires right { IsPolynomial w.now.field VARS (whole f.now) }
-    requires fit { fits w.now.width a.now (whole f.now) ≡ true }
+    requires { HaveProductWithin w.now.field w.now.width a.now f.now }
     ensures value { IfOk result (λ r. r ≡ product_of w.now.field a.now (tail_of f.now)) }
     ensures over { IfOk result (IsPolynomial w.now.field VARS) }
 {

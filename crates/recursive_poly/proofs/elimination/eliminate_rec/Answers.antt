@@ -9,8 +9,12 @@ use Rattle.recursive_poly.specs.Tails.{tail_of}
 use Rattle.recursive_poly.proofs.Tails.{eliminated_within}
 use Rattle.recursive_poly.proofs.elimination.eliminate_rec.Goals as goal
 
-pub difference_of_tails-requires-clause-lead : goal.difference_of_tails-requires-clause-lead
-difference_of_tails-requires-clause-lead c = c.in_ok-l.ensures.over c.args.w.field c.requires.right
+pub difference_of_tails-requires-clause-first : goal.difference_of_tails-requires-clause-first
+difference_of_tails-requires-clause-first c = record {
+  left = c.in_ok-l.ensures.over c.args.w.field c.requires.right;
+  right = c.requires.left;
+  fit = ap (fits c.args.w.width c.in_ok-l.l) (sym c.as_poly.ensures.whole) ∙ c.if-not-fits.ensures.0 refl;
+}
 
 pub returns-clause-value : goal.returns-clause-value
 returns-clause-value c =
