@@ -14,7 +14,8 @@ Entry = Monomial × ℕ × ℕ
 
 -- entries by their monomials, and by their places where these tie
 abbrev pub entry_order : Entry → Entry → Ordering
-entry_order d e = ordering_then (ordering_then (monomial_order d.0 e.0) (nat_cmp d.1 e.1)) (nat_cmp d.2 e.2)
+entry_order d e =
+    ordering_then (ordering_then (monomial_order d.0 e.0) (nat_cmp d.1 e.1)) (nat_cmp d.2 e.2)
 
 -- the term at a place
 abbrev pub term_at : List Term → ℕ → Term
@@ -24,8 +25,8 @@ term_at f k = get_or f k (term [] 0)
 abbrev pub opposite_product : ℕ → Term → Term → Term
 opposite_product p u t = term (monomial_product t.0 u.0) ((p - t.1) % p * u.1 % p)
 
--- what an entry stands for: the opposite products of its term of the divisor g, and each term of the
--- quotient q from its place on
+-- what an entry stands for: the opposite products of its term of the divisor g, and each term of
+-- the quotient q from its place on
 abbrev pub entry_products : ℕ → Polynomial → Polynomial → Entry → List Term
 entry_products p q g e = map (opposite_product p (term_at g e.2)) (drop e.1 q)
 
@@ -39,11 +40,15 @@ added_products p t us = map (λ u. opposite_product p u t) us
 
 -- an entry has the places of two factors, and the monomial of their product
 abbrev pub IsEntry : Polynomial → Polynomial → Entry → Type 0
-IsEntry q g e = (e.1 < length q) × (e.2 < length g) × (e.0 ≡ monomial_product (term_at q e.1).0 (term_at g e.2).0)
+IsEntry q g e =
+    (e.1 < length q)
+    × (e.2 < length g)
+    × (e.0 ≡ monomial_product (term_at q e.1).0 (term_at g e.2).0)
 
--- entries for products of the quotient q and terms g of the divisor: each term of g either has one
--- entry or waits for the next term of q
-pub record AreProducts (p n : ℕ) (q g : Polynomial) (es : List Entry) (waiting : List ℕ) : Type 0 where
+-- entries for products of the quotient q and terms g of the divisor: each term of g has one entry,
+-- or it waits for the next term of q
+pub record AreProducts
+    (p n : ℕ) (q g : Polynomial) (es : List Entry) (waiting : List ℕ) : Type 0 where
   pub quotient : IsPolynomial p n q
   pub divisor : IsPolynomial p n g
   pub fit : PairsFit q g
