@@ -1,8 +1,8 @@
 -- Each step of a deck keeps its rule.
-use Rattle.std.proofs.Common.{◌≡◌, ◌≢◌, ℕ, zero, suc, ◌+◌, ◌≤◌, Bool, true, false, true≢false, List, [], ◌∷◌, ◌++◌, length, set, sym, refl, ap, ◌∙◌, subst, arith, ⊎_elim, ◌⊎◌, append_assoc, append-nil, length-append}
+use Rattle.std.proofs.Common.{◌≡◌, ◌≢◌, ℕ, zero, suc, ◌+◌, ◌≤◌, ◌<◌, Bool, true, false, true≢false, List, [], ◌∷◌, ◌++◌, length, set, sym, refl, ap, ◌∙◌, subst, arith, ⊎_elim, ◌⊎◌, append_assoc, append-nil, length-append}
 use Rattle.std.specs.List.{AllByRecursion, sum_by}
 use Rattle.std.proofs.lemmas.List.Sums.{sum_by-append, sum_by_push}
-use mathlib.Core.Option.{some, some-ne-none}
+use mathlib.Core.Option.{some-ne-none}
 use Rattle.crossbeam_deque.specs.Tasks.{Pushes, Takes, Forks, Merges}
 use Rattle.split_paths.proofs.Lists.{all_append}
 use Rattle.tally_laws.proofs.Places.{each_set, each_end, each_one, sum_moves}
@@ -15,7 +15,7 @@ use Rattle.offer_deck.specs.Views.{EmptyBeside}
 use Rattle.offer_deck.proofs.Counts.{all_front, all_back, weighs_within, all_at_one}
 use Rattle.offer_deck.specs.declared.rule.View.{View}
 use Rattle.offer_deck.specs.Passes.{owner_pass, thief_pass, idle_pass, with_thief, with_thief_back, with_offers, with_stolen}
-use Rattle.offer_deck.specs.Rule.{Trade, taken_weight, hands_of, FitsOwner, FitsDeck, AgreesOn, KeepsDeck, BesideNone, AreFirst}
+use Rattle.offer_deck.specs.Rule.{Trade, taken_weight, hands_of, FitsOwner, FitsDeck, KeepsDeck, Beside, BesideNone, AreFirst}
 
 module _ {A : Type 0} where
   -- a pass that took nothing and isn't the owner's fits any deck
@@ -269,6 +269,26 @@ module _ {A : Type 0} where
         let counted : sum_by hands_of views ≡ trade.thieves = agrees.counted in
         let thieves : v.thieves ≡ trade.thieves = mine.thieves in
         all_taken v owns (omega arith) (views, pass, (trade, agrees), at_pass)
+
+    -- where no offer was counted the deck was empty
+    pub none_counted : (v : View A) (n : ℕ) → (items : List A) × (length items ≡ n) × Beside IsTrue items v
+        → n ≡ 0 → BesideNone IsTrue v
+    none_counted v n ([], count, beside) none = beside
+    none_counted v n (x ∷ items, count, beside) none = absurd (omega arith)
+
+    -- where one was, the owner took less than was made
+    pub some_counted : (v : View A) (n : ℕ) → v.owns ≡ true
+        → (items : List A) × (length items ≡ n) × Beside IsTrue items v
+        → n ≢ 0 → length v.taken < length v.made
+    some_counted v n owns (items, count, (views, pass, (trade, agrees), at_pass)) more =
+        let mine = (agrees.fits pass v at_pass).0 owns in
+        let part : sum_by (λ x. 1) v.taken ≤ sum_by (taken_weight (λ x. 1)) views =
+        weighs_within (taken_weight (λ x. 1)) views pass v at_pass in
+        let all : sum_by (taken_weight (λ x. 1)) views ≡ sum_by (λ x. 1) trade.gone = agrees.once (λ x. 1) in
+        let made : length v.made ≡ length (trade.gone ++ items) = ap length mine.made in
+        let mine_one : sum_by (λ x. 1) v.taken ≡ length v.taken = sum_by-one v.taken in
+        let gone_one : sum_by (λ x. 1) trade.gone ≡ length trade.gone = sum_by-one trade.gone in
+        omega (arith, length-append trade.gone items)
 
 module _ {T : Type 0} (offers : List (Place T)) where
   pub empty_beside : (v : View (Place T)) → BesideNone (IsTrueOffer offers) v → EmptyBeside offers v

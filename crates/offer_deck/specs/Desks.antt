@@ -1,5 +1,5 @@
 -- The end of a deck at which offers are made, before and after it is closed.
-use Rattle.std.specs.Prelude.{◌≡◌, ℕ, ◌+◌, List, [], ◌∷◌, ◌++◌}
+use Rattle.std.specs.Prelude.{◌≡◌, ℕ, ◌+◌, List, [], ◌++◌}
 use Rattle.split_paths.specs.Places.{Place}
 use Rattle.offer_deck.specs.Passes.{owner_pass}
 use Rattle.offer_deck.specs.Views.{DeckId, ThiefView}

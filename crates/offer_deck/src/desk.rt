@@ -1,10 +1,10 @@
-ghost use Rattle.std.specs.Prelude.{◌≡◌, ◌≤◌, ◌+◌, ◌∷◌, [], ◌++◌, ◌↔◌, length, IfSome, IfNone, IfOk, IfErr, OnOk, IsErr};
+ghost use Rattle.std.specs.Prelude.{◌≡◌, ◌≤◌, ◌<◌, ◌+◌, ◌∷◌, [], ◌++◌, ◌↔◌, length, IfSome, IfNone, IfOk, IfErr, OnOk, IsErr, IsTrue, IsFalse};
 ghost use Rattle.split_paths.specs.Key.{IsTrueOffer};
 ghost use Rattle.tally_laws.specs.Weights.{WeighTheSame};
 ghost use Rattle.offer_deck.specs.Desks.{IsUnused, pass_of_desk, with_thief_home};
 ghost use Rattle.offer_deck.specs.Views.{EmptyBeside};
 
-use crate::rule::{Law, Makes, Offers, Returns, Takes, View};
+use crate::rule::{Counts, Law, Makes, Offers, Returns, Takes, View};
 use crate::thief::Thief;
 use crossbeam_deque::Worker;
 use split_paths::{Named, Offer, Splitter};
@@ -104,6 +104,15 @@ impl<X: Splitter, N: Named<X::Task, X::Leaf>> Desk<X, N> {
             return None;
         };
         Some(offer)
+    }
+
+    /// Whether the deck held no offer at one moment of the call.
+    pub(crate) fn is_empty(&mut self) -> bool
+        ensures same { self.new ≡ self.old }
+        ensures beside { IsTrue result → EmptyBeside N.offers (pass_of_desk self.old) }
+        ensures left { IsFalse result → length self.old.taken < length self.old.made }
+    {
+        self.worker.len_as::<Counts<X, N>>() == 0
     }
 
     /// Takes in what a thief took.

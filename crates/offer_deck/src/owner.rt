@@ -1,4 +1,4 @@
-ghost use Rattle.std.specs.Prelude.{◌≡◌, ◌≤◌, ◌∷◌, [], ◌++◌, ◌↔◌, length, IfSome, IfNone, IfErr, OnOk, IsErr};
+ghost use Rattle.std.specs.Prelude.{◌≡◌, ◌≤◌, ◌<◌, ◌∷◌, [], ◌++◌, ◌↔◌, length, IfSome, IfNone, IfErr, OnOk, IsErr, IsTrue, IsFalse};
 ghost use Rattle.std.specs.List.{AllByRecursion};
 ghost use Rattle.split_paths.specs.Key.{IsTrueOffer};
 ghost use Rattle.tally_laws.specs.Weights.{WeighTheSame};
@@ -58,6 +58,17 @@ impl<X: Splitter, N: Named<X::Task, X::Leaf>> Owner<X, N> {
             → WeighTheSame self.old.taken self.old.made) }
     {
         self.desk.recall()
+    }
+
+    /// Whether the deck held no offer at one moment of the call.
+    ///
+    /// Thieves may take what it held before the call returns; only the owner adds to it.
+    pub fn is_empty(&mut self) -> bool
+        ensures same { self.new ≡ self.old }
+        ensures beside { IsTrue result → EmptyBeside N.offers (pass_of_owner self.old) }
+        ensures left { IsFalse result → length self.old.taken < length self.old.made }
+    {
+        self.desk.is_empty()
     }
 
     /// Ends the deck, which is given all its thieves back.

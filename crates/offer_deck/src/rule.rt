@@ -1,5 +1,5 @@
 //! What a deck holds and what each of its passes knows. No value of a view is ever made.
-use crossbeam_deque::protocol::{Join, Outcome, Protocol, Split};
+use crossbeam_deque::protocol::{Join, Lesson, Outcome, Protocol, Split};
 use split_paths::{Named, Offer, Splitter};
 use std::collections::LinkedList;
 use std::marker::PhantomData;
@@ -76,4 +76,16 @@ impl<X: Splitter, N: Named<X::Task, X::Leaf>> Outcome<Offer<X>, View<Offer<X>>> 
     ghost then = { AreFirst (IsTrueOffer N.offers) };
 
     ghost empty = { BesideNone (IsTrueOffer N.offers) };
+}
+
+/// What the deck holds is counted.
+pub struct Counts<X: Splitter, N: Named<X::Task, X::Leaf>> {
+    of: PhantomData<(X, N)>,
+}
+
+impl<X: Splitter, N: Named<X::Task, X::Leaf>> Lesson<Offer<X>, View<Offer<X>>> for Counts<X, N> {
+    ghost use Rattle.split_paths.specs.Key.{IsTrueOffer};
+    ghost use Rattle.offer_deck.specs.Rule.{Beside};
+
+    ghost fact = { λ owner items. Beside (IsTrueOffer N.offers) items owner };
 }

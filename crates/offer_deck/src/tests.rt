@@ -132,6 +132,13 @@ fn steals_none<N: Named<u32, u32>, R: Wait + Abort>(rt: &R, thief: &mut Thief<Em
     }
 }
 
+/// The owner sees whether its deck is empty.
+fn sees<N: Named<u32, u32>, R: Abort>(rt: &R, owner: &mut Owner<Emitter, N>, empty: bool)
+    ensures { owner.new ≡ owner.old }
+{
+    assert!(rt; owner.is_empty() == empty);
+}
+
 /// A thief takes the first of two offers, and the owner the second.
 fn share<N: Named<u32, u32>, R: Wait + Abort>(
     rt: &R,
@@ -146,10 +153,13 @@ fn share<N: Named<u32, u32>, R: Wait + Abort>(
     ensures thieves { owner.new.thieves ≡ owner.old.thieves }
     ensures thief { thief.new.deck ≡ thief.old.deck }
 {
+    sees(rt, owner, true);
     offers(rt, owner, first);
     offers(rt, owner, second);
     steals(rt, thief, 1);
+    sees(rt, owner, false);
     recalls(rt, owner, 2);
+    sees(rt, owner, true);
     steals_none(rt, thief);
 }
 

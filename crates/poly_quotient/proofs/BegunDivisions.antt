@@ -42,7 +42,7 @@ IsPolynomial-append p n (t ∷ ts) x k above i j = (i.0, i.1, i.2, next ts i.3 a
     next (y ∷ ts) below less = below
 
 -- a common factor doesn't change the order
-order_of_multiples : (k l m : Monomial) → length l ≡ length m → monomial_order (monomial_product l k) (monomial_product m k) ≡ monomial_order l m
+pub order_of_multiples : (k l m : Monomial) → length l ≡ length m → monomial_order (monomial_product l k) (monomial_product m k) ≡ monomial_order l m
 order_of_multiples k l m same = ap₂ monomial_order (monomial_product_comm l k) (monomial_product_comm m k) ∙ monomial_order-product k l m same
 
 -- what starts below the last multiple starts below each

@@ -1,5 +1,5 @@
 -- What a call says of a quotient, from what the quotient is.
-use Rattle.std.proofs.Common.{◌≡◌, ◌≢◌, ℕ, ◌+◌, ◌<◌, ◌↔◌, Bool, true, false, [], ◌∷◌, ◌++◌, subst, Option, Some, None, IfSome, IfNone, IsNone, refl, sym, ap, ◌∙◌, arith}
+use Rattle.std.proofs.Common.{◌≡◌, ◌≢◌, ℕ, ◌+◌, ◌*◌, ◌<◌, ◌≤◌, length, mul-le-mul, ◌↔◌, Bool, true, false, [], ◌∷◌, ◌++◌, subst, Option, Some, None, IfSome, IfNone, IsNone, refl, sym, ap, ◌∙◌, arith}
 use Rattle.polynomials.specs.Primes.{IsPrime}
 use Rattle.polynomials.specs.Monomials.{Monomial, exponent_of, monomial_product, MonomialDivides}
 use Rattle.polynomials.specs.Polynomials.{term, Polynomial, IsPolynomial, product_of}
@@ -12,12 +12,36 @@ use Rattle.division_rules.specs.Quotients.{quotient_within}
 use Rattle.division_rules.proofs.Quotients.{quotient_within_exact, quotient_within_fits, quotient_within_of_zero, IsPolynomial-quotient_within}
 use Rattle.division_rules.proofs.QuotientFacts.{quotient_within_degree}
 use Rattle.division_rules.proofs.QuotientCases.{quotient_within_none, quotient_within_none_iff}
+use Rattle.poly_quotient.proofs.BegunDivisions.{few_from_fits}
 use Rattle.poly_quotient.proofs.LastTerms.{last_divides}
 
 -- a test that fails exactly where there is nothing holds where there is something
 pub some_then_true : {X : Type 0} (o : Option X) (x : X) (b : Bool) → (IsNone o ↔ (b ≡ false)) → o ≡ Some x → b ≡ true
 some_then_true o x true h e = refl
 some_then_true o x false h e = let bad = subst IsNone e (h.1 refl) in cc
+
+-- what holds of what there is
+pub IfSome-weaker : {X : Type 0} (P Q : X → Type 0) → (o : Option X) → ((x : X) → P x → Q x) → IfSome o P → IfSome o Q
+IfSome-weaker P Q (Some x) h i = h x i
+IfSome-weaker P Q None h i = tt
+
+pub some_at : {X : Type 0} (P : X → Type 0) (o : Option X) (x : X) → o ≡ Some x → IfSome o P → P x
+some_at P o x is h = subst (λ r. IfSome r P) is h
+
+-- what holds where there is nothing
+pub none_at : {X : Type 0} (P : Type 0) (o : Option X) → o ≡ None → IfNone o P → P
+none_at P o is h = subst (λ r. IfNone r P) is h
+
+-- there is no quotient by more terms than the width
+pub none_of_narrow : (p n w : ℕ) (a b : Polynomial) → w < length b → a ≢ [] → quotient_within p w a b ≡ None
+none_of_narrow p n w a b narrow some = quotient_within_none p w a b none
+  where
+    none : (q : Polynomial) → quotient_within p w a b ≡ Some q → ⊥
+    none [] e = some (sym (quotient_within_exact p w a b [] e))
+    none (t ∷ q) e =
+        let few = few_from_fits w (t ∷ q) b (quotient_within_fits p w a b (t ∷ q) e) in
+        let grows : 1 * length b ≤ length (t ∷ q) * length b = mul-le-mul (omega arith) (omega arith) in
+        omega arith
 
 module _ (p n w : ℕ) (prime : IsPrime p) (a b : Polynomial) (i : IsPolynomial p n a) (j : IsPolynomial p n b) (nonzero : b ≢ []) where
   positive : 0 < p

@@ -5,6 +5,10 @@ pub mod Members
 pub mod SingleTerms
 pub mod LastTerms
 pub mod RestSums
+pub mod FlatPermutations
+pub mod EntryOrders
+pub mod EntryProducts
+pub mod EntryTurns
 pub mod RestItems
 pub mod RestTurns
 pub mod BegunDivisions

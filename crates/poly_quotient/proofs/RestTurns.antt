@@ -1,48 +1,42 @@
 -- Turns of the loops over a heap of products.
-use Rattle.std.proofs.Common.{◌≡◌, ◌≢◌, ℕ, ◌+◌, ◌%◌, ◌<◌, ◌≤◌, length, List, [], ◌∷◌, ◌++◌, All, IsPermutation, get_or, map, drop, append-nil, sym, ap, ap₂, ◌∙◌, subst, arith}
+use Rattle.std.proofs.Common.{◌≡◌, ◌≢◌, ℕ, ◌+◌, ◌%◌, ◌<◌, ◌≤◌, length, List, [], ◌∷◌, ◌++◌, All, IsPermutation, map, append-nil, append_assoc, Option, Some, None, IfSome, IfNone, refl, sym, subst, ap, ap₂, ◌∙◌, arith}
 use Rattle.std.specs.Prelude.{Result, Ok, Err, OnOk}
-use Rattle.std.proofs.Math.ListN.{drop_of_length-le}
-use Rattle.polynomials.specs.Primes.{IsPrime}
-use Rattle.std.specs.BinaryHeap.{IsHeap}
 use Rattle.std.specs.declared.cmp.Ordering.TheVariants.{Less}
-use Rattle.std.proofs.lemmas.List.Elements.{All-nil, All-tail}
+use Rattle.std.proofs.lemmas.List.Elements.{All-tail}
 use Rattle.std.proofs.lemmas.List.Sorted.{All-permutation, length_permutation}
+use Rattle.polynomials.specs.Primes.{IsPrime}
 use Rattle.polynomials.specs.Monomials.{Monomial, monomial_order}
-use Rattle.polynomials.specs.Polynomials.{Term, term, Polynomial, IsPolynomial, collected, sum_of, product_of}
-use Rattle.polynomials.proofs.Monomialwise.{EachMonomial-append, HaveLength, HaveLength-from_IsPolynomial}
-use Rattle.polynomials.proofs.Canonical.{IsPolynomial-product_of}
-use Rattle.polynomials.proofs.SamePolynomials.{collected_itself, SameSums, SameSums-refl, SameSums-sym, SameSums-trans, SameSums-from_path}
-use Rattle.polynomials.proofs.SameSumsLemmas.{SameSums-permutation, SameSums-append, SameSums-to_front}
+use Rattle.polynomials.specs.Polynomials.{Term, term, Polynomial, IsPolynomial, collected, sum_of, product_of, opposite_term, negative_of}
+use Rattle.polynomials.proofs.Monomialwise.{EachMonomial-append, HaveLength-from_IsPolynomial}
+use Rattle.polynomials.proofs.Canonical.{IsPolynomial-negative_of, IsPolynomial-product_of}
+use Rattle.polynomials.proofs.SamePolynomials.{collected_itself, SameSums-refl, SameSums-sym, SameSums-trans, SameSums-from_path}
+use Rattle.polynomials.proofs.SameSumsLemmas.{SameSums-permutation, SameSums-append}
 use Rattle.sparse_poly.specs.Falling.{IsAtMost}
 use Rattle.sparse_poly.proofs.Sums.{IsBelow, all_below}
-use Rattle.sparse_poly.proofs.Places.{drop_item}
 use Rattle.sparse_poly.proofs.Products.{reduced_product, product_of-term}
-use Rattle.poly_quotient.specs.Rests.{term_order, IsRest, sum_of_rest, TakesGreatest}
-use Rattle.poly_quotient.proofs.RestSums.{EachMonomial-from_All, changed_beside, joined_first, first_vanishes, first_stays, added_items, added_beside_terms}
-use Rattle.poly_quotient.proofs.RestItems.{lengths_of, rest_beside, rest_without}
+use Rattle.poly_quotient.specs.Rests.{Entry, products_left, added_products, AreProducts, sum_of_rest, TakesGreatest}
+use Rattle.poly_quotient.proofs.Clauses.{some_at, none_at}
+use Rattle.poly_quotient.proofs.Turns.{opposite_residue}
+use Rattle.poly_quotient.proofs.RestSums.{EachMonomial-from_All, changed_beside, joined_first, first_vanishes, first_stays, added_items}
+use Rattle.poly_quotient.proofs.RestItems.{IsRest, rest_of, rest_beside, lengths_of, rest_without}
 
 -- at first all terms are left
-module _ (p n : ℕ) (a terms : Polynomial) (products : List Term) (all : terms ≡ a) (no_product : products ≡ []) (i : IsPolynomial p n a) where
-  pub rest_begins : IsHeap term_order products → IsRest p n terms products
-  rest_begins order = record {
-    canonical = subst (IsPolynomial p n) (sym all) i;
-    variables = subst (λ (l : List Term). All (λ (t : Term). length t.0 ≡ n) l) (sym no_product) (All-nil (λ (t : Term). length t.0 ≡ n));
-    residues = subst (λ (l : List Term). All (λ (t : Term). t.1 < p) l) (sym no_product) (All-nil (λ (t : Term). t.1 < p));
-    order = order;
-  }
-
-  pub begun : sum_of_rest p terms products ≡ a
-  begun = ap₂ (λ (l m : List Term). collected p (l ++ m)) all no_product ∙ ap (collected p) (append-nil a) ∙ collected_itself p n a i
+pub begun : (p n : ℕ) (a terms q g : Polynomial) (es : List Entry) → terms ≡ a → es ≡ [] → IsPolynomial p n a → sum_of_rest p terms (products_left p q g es) ≡ a
+begun p n a terms q g es all none i = ap₂ (λ (l : Polynomial) (m : List Entry). collected p (l ++ products_left p q g m)) all none ∙ ap (collected p) (append-nil a) ∙ collected_itself p n a i
 
 -- of items with the coefficient c before them, those with the monomial m were added to it on the way
 abbrev pub IsJoining : ℕ → ℕ → Monomial → ℕ → List Term → ℕ → List Term → Type 0
 IsJoining p n m c all sum items = (sum < p) × IsRest p n [] items × All (λ u. IsAtMost m u.0) items × (collected p (term m c ∷ all) ≡ collected p (term m sum ∷ items)) × (length items ≤ length all)
 
 module _ (p n : ℕ) (positive : 0 < p) where
+  -- at first none was added
+  pub joining_begins : (m : Monomial) (c : ℕ) (all : List Term) → c < p → IsRest p n [] all → All (λ u. IsAtMost m u.0) all → IsJoining p n m c all c all
+  joining_begins m c all small r most = (small, r, most, refl, omega arith)
+
   -- one more joins
-  pub joining_turn : (m : Monomial) (c : ℕ) (all : List Term) (s sum b : ℕ) (items others : List Term) → length m ≡ n → IsPermutation items (term m b ∷ others) → IsHeap term_order others → sum ≡ (s + b) % p → sum < p → IsJoining p n m c all s items → IsJoining p n m c all sum others
-  joining_turn m c all s sum b items others long permuted order is small (_, r, most, same, count) =
-      let without = rest_without p n [] items others (term m b) permuted order r in (
+  pub joining_turn : (m : Monomial) (c : ℕ) (all : List Term) (s sum b : ℕ) (items others : List Term) → length m ≡ n → IsPermutation items (term m b ∷ others) → sum ≡ (s + b) % p → sum < p → IsJoining p n m c all s items → IsJoining p n m c all sum others
+  joining_turn m c all s sum b items others long permuted is small (_, r, most, same, count) =
+      let without = rest_without p n [] items others (term m b) permuted r in (
         small,
         without,
         All-tail (λ (x : Term). IsAtMost m x.0) (term m b) others (All-permutation (λ (x : Term). IsAtMost m x.0) items (term m b ∷ others) permuted most),
@@ -66,33 +60,45 @@ module _ (p n : ℕ) (positive : 0 < p) where
         ∙ first_stays p n positive m sum (later ++ items) (takes.variables, lengths_of p n later items (rest_beside p n [] later items rest.canonical kept)) small
         (EachMonomial-append (IsBelow m) later items (all_below p n m later rest.canonical takes.below) (EachMonomial-from_All (IsBelow m) items below)) some
 
--- one more product of t is among the items
-pub product_turn : (p : ℕ) (t u v : Term) (g all items more : List Term) (k : ℕ) → k < length g → u ≡ get_or g k u → v ≡ reduced_product p t u → IsPermutation (v ∷ items) more → SameSums p (items ++ map (reduced_product p t) (drop k g)) all → SameSums p (more ++ map (reduced_product p t) (drop (k + 1) g)) all
-product_turn p t u v g all items more k below at is permuted same =
-    let later = map (reduced_product p t) (drop (k + 1) g) in
-    let now : items ++ v ∷ later ≡ items ++ map (reduced_product p t) (drop k g) = ap (λ x. items ++ x ∷ later) is ∙ ap (λ l. items ++ map (reduced_product p t) l) (sym (drop_item g k u below at)) in
-    SameSums-trans p (more ++ later) (v ∷ (items ++ later)) all (SameSums-append p more later (v ∷ items) later (SameSums-permutation p (v ∷ items) more permuted) (SameSums-refl p later))
-    (SameSums-trans p (v ∷ (items ++ later)) (items ++ v ∷ later) all (SameSums-sym p (items ++ v ∷ later) (v ∷ (items ++ later)) (SameSums-to_front p v items later))
-    (SameSums-trans p (items ++ v ∷ later) (items ++ map (reduced_product p t) (drop k g)) all (SameSums-from_path p (items ++ v ∷ later) (items ++ map (reduced_product p t) (drop k g)) now) same))
+-- what was added is the product of the opposite term
+pub products_added : (p n : ℕ) → IsPrime p → (terms q g : Polynomial) (t : Term) (before es : List Entry) (w v : List ℕ) → IsPolynomial p n terms → IsPolynomial p n (t ∷ []) → AreProducts p n q g before w → AreProducts p n (q ++ t ∷ []) g es v → IsPermutation (products_left p (q ++ t ∷ []) g es) (products_left p q g before ++ added_products p t g) → sum_of_rest p terms (products_left p (q ++ t ∷ []) g es) ≡ sum_of p (sum_of_rest p terms (products_left p q g before)) (product_of p (negative_of p (t ∷ [])) g)
+products_added p n prime terms q g t before es w v i it are will moved =
+    added_items p n positive (terms ++ old) (terms ++ new) (product_of p (negative_of p (t ∷ [])) g)
+    (lengths_of p n terms old (rest_of p n positive terms q g before w i are))
+    (lengths_of p n terms new (rest_of p n positive terms (q ++ t ∷ []) g es v i will))
+    (IsPolynomial-product_of p n positive (negative_of p (t ∷ [])) g opposite are.divisor)
+    (SameSums-trans p (terms ++ new) (terms ++ (old ++ more)) ((terms ++ old) ++ product_of p (negative_of p (t ∷ [])) g)
+    (SameSums-append p terms new terms (old ++ more) (SameSums-refl p terms) (SameSums-sym p (old ++ more) new (SameSums-permutation p new (old ++ more) moved)))
+    (SameSums-from_path p (terms ++ (old ++ more)) ((terms ++ old) ++ product_of p (negative_of p (t ∷ [])) g)
+    (sym (append_assoc terms old more) ∙ ap (λ l. (terms ++ old) ++ l) (sym (product_of-term p n prime (opposite_term p t) g opposite are.divisor ∙ ap (λ x. map (reduced_product p x) g) (sym (opposite_residue p t it.1 it.2)))))))
+  where
+    positive : 0 < p
+    positive = omega (arith, prime.many)
 
--- at the end no product is to come
-pub products_end : (p : ℕ) (t : Term) (g all items : List Term) (k : ℕ) → length g ≤ k → SameSums p (items ++ map (reduced_product p t) (drop k g)) all → SameSums p items all
-products_end p t g all items k end same = subst (λ l. SameSums p l all) (ap (λ l. items ++ map (reduced_product p t) l) (drop_of_length-le g end) ∙ append-nil items) same
+    old : List Term
+    old = products_left p q g before
 
--- what was added is the product
-pub products_added : (p n : ℕ) → IsPrime p → (t : Term) (g : Polynomial) (old new : List Term) → IsPolynomial p n (t ∷ []) → IsPolynomial p n g → HaveLength n old → HaveLength n new → SameSums p new (old ++ map (reduced_product p t) g) → collected p new ≡ sum_of p (collected p old) (product_of p (t ∷ []) g)
-products_added p n prime t g old new i j l k same =
-    added_items p n (omega (arith, prime.many)) old new (product_of p (t ∷ []) g) l k (IsPolynomial-product_of p n (omega (arith, prime.many)) (t ∷ []) g i j)
-    (subst (λ x. SameSums p new (old ++ x)) (sym (product_of-term p n prime t g i j)) same)
+    new : List Term
+    new = products_left p (q ++ t ∷ []) g es
 
--- beside terms too
-pub product_beside : (p n : ℕ) (terms old new : List Term) (t : Term) (g : Polynomial) → IsPolynomial p n (t ∷ []) → IsPolynomial p n g → IsRest p n terms old → IsRest p n [] new → collected p new ≡ sum_of p (collected p old) (product_of p (t ∷ []) g) → sum_of_rest p terms new ≡ sum_of p (sum_of_rest p terms old) (product_of p (t ∷ []) g)
-product_beside p n terms old new t g i j before after sum =
-    let small = i.2 in
-    let positive : 0 < p = omega arith in
-    added_beside_terms p n positive terms old new (product_of p (t ∷ []) g) (HaveLength-from_IsPolynomial p n terms before.canonical) (EachMonomial-from_All (λ m. length m ≡ n) old before.variables) (lengths_of p n [] new after) (IsPolynomial-product_of p n positive (t ∷ []) g i j) sum
+    more : List Term
+    more = added_products p t g
 
--- two facts on a result give a third
-pub OnOk-both : {X E P Q R : Type 0} → (r : Result X E) → (P → Q → R) → OnOk r P → OnOk r Q → OnOk r R
-OnOk-both (Ok x) both h i = both h i
-OnOk-both (Err e) both h i = tt
+    opposite : IsPolynomial p n (negative_of p (t ∷ []))
+    opposite = IsPolynomial-negative_of p n (t ∷ []) it
+
+-- the same where there is memory
+pub products_added_ok : {X E : Type 0} → (p n : ℕ) → IsPrime p → (terms q g : Polynomial) (t : Term) (before es : List Entry) (w v : List ℕ) (r : Result X E) → IsPolynomial p n terms → IsPolynomial p n (t ∷ []) → AreProducts p n q g before w → OnOk r (AreProducts p n (q ++ t ∷ []) g es v) → OnOk r (IsPermutation (products_left p (q ++ t ∷ []) g es) (products_left p q g before ++ added_products p t g)) → OnOk r (sum_of_rest p terms (products_left p (q ++ t ∷ []) g es) ≡ sum_of p (sum_of_rest p terms (products_left p q g before)) (product_of p (negative_of p (t ∷ [])) g))
+products_added_ok p n prime terms q g t before es w v (Ok x) i it are will moved = products_added p n prime terms q g t before es w v i it are will moved
+products_added_ok p n prime terms q g t before es w v (Err e) i it are will moved = tt
+
+-- what a call says of the quotient that it was given, for that quotient
+module _ (p : ℕ) (q d g : Polynomial) (same : d ≡ q) (terms later : Polynomial) (es ds : List Entry) where
+  pub first_taken : (o : Option Term) (t : Term) → o ≡ Some t → IfSome o (λ t. sum_of_rest p terms (products_left p d g es) ≡ t ∷ sum_of_rest p later (products_left p d g ds)) → sum_of_rest p terms (products_left p q g es) ≡ t ∷ sum_of_rest p later (products_left p q g ds)
+  first_taken o t is some = subst (λ (l : Polynomial). sum_of_rest p terms (products_left p l g es) ≡ t ∷ sum_of_rest p later (products_left p l g ds)) same (some_at (λ t. sum_of_rest p terms (products_left p d g es) ≡ t ∷ sum_of_rest p later (products_left p d g ds)) o t is some)
+
+  pub nothing_left : (o : Option Term) → o ≡ None → IfNone o (sum_of_rest p terms (products_left p d g es) ≡ []) → sum_of_rest p terms (products_left p q g es) ≡ []
+  nothing_left o is none = subst (λ (l : Polynomial). sum_of_rest p terms (products_left p l g es) ≡ []) same (none_at (sum_of_rest p terms (products_left p d g es) ≡ []) o is none)
+
+  pub went_on : (t : Term) → sum_of_rest p later (products_left p (d ++ t ∷ []) g ds) ≡ sum_of p (sum_of_rest p terms (products_left p d g es)) (product_of p (negative_of p (t ∷ [])) g) → sum_of_rest p later (products_left p (q ++ t ∷ []) g ds) ≡ sum_of p (sum_of_rest p terms (products_left p q g es)) (product_of p (negative_of p (t ∷ [])) g)
+  went_on t sum = subst (λ (l : Polynomial). sum_of_rest p later (products_left p (l ++ t ∷ []) g ds) ≡ sum_of p (sum_of_rest p terms (products_left p l g es)) (product_of p (negative_of p (t ∷ [])) g)) same sum

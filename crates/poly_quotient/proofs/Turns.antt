@@ -1,5 +1,5 @@
 -- The turns of a division from the greatest term down: when it stops, goes on and ends.
-use Rattle.std.proofs.Common.{◌≡◌, ◌≢◌, ◌⊎◌, ℕ, ◌+◌, ◌-◌, ◌*◌, ◌%◌, ◌<◌, ◌≤◌, Bool, true, false, [], ◌∷◌, ◌++◌, length, take, drop, get_or, mul-le-mul, Some, None, refl, sym, ap, ap₂, ◌∙◌, subst, inl, inr, length-append, arith}
+use Rattle.std.proofs.Common.{◌≡◌, ◌≢◌, ◌⊎◌, ℕ, ◌+◌, ◌-◌, ◌*◌, ◌%◌, ◌^◌, ◌<◌, ◌≤◌, Bool, true, false, [], ◌∷◌, ◌++◌, length, take, drop, get_or, mul-le-mul, Some, None, refl, sym, ap, ap₂, ◌∙◌, subst, inl, inr, length-append, arith}
 use Rattle.std.proofs.Math.Nat.{mod-eq_of_lt}
 use Rattle.std.proofs.lemmas.Bool.{cases_lt}
 use Rattle.polynomials.specs.Primes.{IsPrime, inverse_of}
@@ -11,7 +11,7 @@ use Rattle.polynomials.proofs.RingLaws.{neg-times}
 use Rattle.polynomials.proofs.Canonical.{IsPolynomial-negative_of}
 use Rattle.sparse_poly.proofs.Places.{take_rest}
 use Rattle.polynomials.proofs.PolynomialRing.{polynomial_ring}
-use Rattle.sparse_poly.specs.Pairs.{FitsEach}
+use Rattle.sparse_poly.specs.Pairs.{FitsEach, PairsFit}
 use Rattle.sparse_poly.proofs.FittingPairs.{FitsEach-from_degrees}
 use Rattle.sparse_poly.proofs.Products.{product_of-term}
 use Rattle.division_rules.specs.Quotients.{monomial_divides, monomial_over, term_over, quotient_within}
@@ -40,6 +40,17 @@ pub less_room : (k m w k' : ℕ) → 0 < m → (k + 1) * m ≤ w → k' ≡ k + 
 less_room k m w k' some short more =
     let grows : (k + 1) * 1 ≤ (k + 1) * m = mul-le-mul (omega arith) (omega arith) in
     omega arith
+
+-- the number of terms is one of 32 bits
+pub few_terms : (k m w : ℕ) → 0 < m → k * m ≤ w → w < 2 ^ 32 → k < 2 ^ 32
+few_terms k m w some few narrow =
+    let grows : k * 1 ≤ k * m = mul-le-mul (omega arith) (omega arith) in
+    omega arith
+
+-- what fits with all terms fits with the later ones
+pub fit_later : (f b : Polynomial) (u : Term) (g : Polynomial) → b ≡ u ∷ g → PairsFit f b → PairsFit f g
+fit_later [] b u g whole h = tt
+fit_later (t ∷ f) b u g whole h = ((subst (FitsEach t.0) whole h.0).1, fit_later f b u g whole h.1)
 
 module _ (p n w : ℕ) (prime : IsPrime p) (a b : Polynomial) (u : Term) (i : IsPolynomial p n a) (j : IsPolynomial p n b) (some : a ≢ []) (g : Polynomial) (whole : b ≡ u ∷ g) where
   positive : 0 < p
@@ -135,21 +146,9 @@ module _ (p n w : ℕ) (prime : IsPrime p) (a b : Polynomial) (u : Term) (i : Is
         (subst (λ x. IsDivision p n u g a (ts ++ x ∷ []) (difference_of p (t ∷ later) (product_of p (term_over p t u ∷ []) (u ∷ g)))) (sym is)
         (division_continues p n prime u g j_whole a ts t later (divides_test divides) e))
 
-    -- by itself it is canonical
-    pub term_canonical : (s : Term) → s ≡ term_over p t u → MonomialDivides u.0 t.0 → IsPolynomial p n (s ∷ [])
-    term_canonical s is divides = subst (λ x. IsPolynomial p n (x ∷ [])) (sym is) (first_quotient_canonical p n prime u (g) j_whole t (later) e.rest_canonical (divides_test divides))
-
-    -- the opposite term by itself is canonical
-    pub opposite_canonical : (s : Term) (c : ℕ) → s ≡ term_over p t u → MonomialDivides u.0 t.0 → c ≡ (p - s.1) % p → IsPolynomial p n (term s.0 c ∷ [])
-    opposite_canonical s c is divides opposite =
-        let single = term_canonical s is divides in
-        subst (λ x. IsPolynomial p n (x ∷ [])) (sym (ap (λ x. term s.0 x) opposite ∙ opposite_residue p s single.1 single.2)) (IsPolynomial-negative_of p n (s ∷ []) single)
-
-    -- so its product is taken from the rest
-    pub opposite_product : (s : Term) (c : ℕ) → s ≡ term_over p t u → MonomialDivides u.0 t.0 → c ≡ (p - s.1) % p → (next : Polynomial) → next ≡ sum_of p later (product_of p (term s.0 c ∷ []) g) → next ≡ sum_of p later (product_of p (negative_of p (s ∷ [])) g)
-    opposite_product s c is divides opposite next leaves =
-        let single = term_canonical s is divides in
-        leaves ∙ ap (λ x. sum_of p later (product_of p (x ∷ []) g)) (ap (λ x. term s.0 x) opposite ∙ opposite_residue p s single.1 single.2)
+    -- it comes after the others
+    pub next_canonical : (s : Term) → s ≡ term_over p t u → MonomialDivides u.0 t.0 → IsPolynomial p n (ts ++ s ∷ [])
+    next_canonical s is divides = subst (λ x. IsPolynomial p n (ts ++ x ∷ [])) (sym is) (division_continues p n prime u g j_whole a ts t later (divides_test divides) e).terms_canonical
 
   module _ (most : (v : ℕ) → degree_in v a ≤ 65535) where
     -- the products of a next term by the divisor's later terms have exponents of 16 bits

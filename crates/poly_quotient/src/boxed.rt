@@ -1,5 +1,6 @@
-ghost use Rattle.std.specs.Prelude.{◌≡◌, ◌≢◌, ◌*◌, ◌<◌, ◌≤◌, [], ◌∷◌, length, All, IfOk, IfSome, IsTrue};
+ghost use Rattle.std.specs.Prelude.{◌≡◌, ◌≢◌, ◌<◌, true, [], ◌∷◌, All, IfOk, IfSome, IsTrue};
 ghost use Rattle.polynomials.specs.Polynomials.{Term, Polynomial, StartsBelow, IsPolynomial, difference_of};
+ghost use Rattle.polynomials.specs.Fits.{fits};
 ghost use Rattle.division_rules.proofs.Divisions.{IsDivision};
 
 use crate::last::last_monomial;
@@ -37,7 +38,7 @@ pub fn begun(
     requires nonzero { b.now ≢ [] }
     ensures division { IfOk result (λ r. IfSome r (λ d. (u : Term) (g : Polynomial) →
         b.now ≡ u ∷ g → IsDivision w.field VARS u g a.now d.0 d.1)) }
-    ensures few { IfOk result (λ r. IfSome r (λ d. length d.0 * length b.now ≤ w.width)) }
+    ensures fit { IfOk result (λ r. IfSome r (λ d. fits w.width d.0 b.now ≡ true)) }
 {
     let Work { field, width } = w;
     field.facts();

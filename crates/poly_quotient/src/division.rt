@@ -2,6 +2,7 @@ ghost use Rattle.std.specs.Prelude.{◌≡◌, ◌≢◌, ℕ, ◌+◌, ◌*◌,
 ghost use Rattle.polynomials.specs.Monomials.{exponent_of};
 ghost use Rattle.polynomials.specs.Polynomials.{Term, Polynomial, IsPolynomial};
 ghost use Rattle.polynomials.specs.Views.{degree_in};
+ghost use Rattle.sparse_poly.specs.Pairs.{PairsFit};
 ghost use Rattle.division_rules.specs.Quotients.{quotient_within};
 ghost use Rattle.division_rules.proofs.Divisions.{IsDivision};
 
@@ -35,6 +36,9 @@ pub fn divided(
     }
     let Work { field, width } = w;
     field.facts();
+    if b.term_count() > width as usize {
+        return Ok(None);
+    }
     match begun(alloc, Work { field, width }, a, b, room)? {
         None => {
             let none = Vec::new(alloc);
@@ -74,6 +78,8 @@ fn divided_by_terms(
     requires begun { (u : Term) (g : Polynomial) →
         b.now ≡ u ∷ g → IsDivision w.field VARS u g a.now found.items left.now }
     requires few { length found.items * length b.now ≤ w.width }
+    requires fit { PairsFit found.items b.now }
+    requires short { length b.now ≤ w.width }
     ensures quotient { IfOk result (λ r. IfSome r (λ q.
         quotient_within w.field w.width a.now b.now ≡ Some q.items)) }
     ensures none { IfOk result (λ r. IfNone r (quotient_within w.field w.width a.now b.now ≡ None)) }
@@ -85,8 +91,8 @@ fn divided_by_terms(
     let inverse = f.inv(lead.1);
     let mut quotient = found;
     let later = &b.terms()[1..];
-    let mut rest = Rest::of(alloc, left);
-    while let Some(first) = rest.take_first(f) {
+    let mut rest = Rest::of(alloc, f, left, &quotient, later)?;
+    while let Some(first) = rest.take_first(f, &quotient, later)? {
         let terms = (quotient.len() as u128 + 1) * b.term_count() as u128;
         if terms > w.width as u128 || !lead.0.divides(first.0) {
             return Ok(None);
@@ -97,7 +103,7 @@ fn divided_by_terms(
         if !t.0.divides(room) {
             return Ok(None);
         }
-        rest.add_product(f, (t.0, f.neg(t.1)), later)?;
+        rest.go_on(f, (t.0, t.1), &quotient, later)?;
         quotient.push(t)?;
     }
     Ok(Some(quotient))

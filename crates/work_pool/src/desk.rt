@@ -9,8 +9,20 @@ use generators::{Generator, Turn};
 use offer_deck::Steal;
 use split_paths::{Event, Named, Offer, Splitter};
 use std::alloc::{AllocError, Global};
+use std::hint::spin_loop;
 use std::sync::Wait;
 use std::thread::yield_now;
+
+/// How many times a worker without a task gives way within its processor before it yields.
+const SPINS: u32 = 200;
+
+/// Gives way to workers that have a task: to the thread beside on the same processor, then to others.
+fn pause() {
+    for _ in 0..SPINS {
+        spin_loop();
+    }
+    yield_now();
+}
 
 impl<X: Splitter, N: Named<X::Task, X::Leaf>> Home<X, N> {
     /// Tries to put the event that is held, and lets others run where there is no room.
@@ -113,7 +125,7 @@ impl<X: Splitter, N: Named<X::Task, X::Leaf>> Home<X, N> {
         Ok(())
     }
 
-    /// Tries to take an offer of another's deck, and lets others run where there is none.
+    /// Tries to take an offer of another's deck, and pauses where there is none.
     fn steal<R: Wait>(&mut self, rt: &R, k: usize)
         requires desk { IsAtWork N.events N.offers self.old }
         requires free { self.old.offers ≡ [] }
@@ -122,7 +134,7 @@ impl<X: Splitter, N: Named<X::Task, X::Leaf>> Home<X, N> {
     {
         match self.thieves[k].steal(rt) {
             Steal::Got(offer) => self.keep(offer),
-            Steal::Empty => yield_now(),
+            Steal::Empty => pause(),
         }
     }
 
@@ -154,6 +166,13 @@ impl<X: Splitter, N: Named<X::Task, X::Leaf>> Home<X, N> {
             Some(_) => false,
             None => true,
         }
+    }
+
+    /// Whether the own deck holds no offer.
+    fn offers_none(&mut self) -> bool
+        ensures { self.new ≡ self.old }
+    {
+        self.owner.is_empty()
     }
 
     /// Whether two tasks or more wait.
@@ -200,7 +219,7 @@ impl<X: Splitter, N: Named<X::Task, X::Leaf>> Home<X, N> {
         }
     }
 
-    /// Makes a turn, and offers a task after a split.
+    /// Makes a turn, and offers a task after a split, or where thieves find no offer of this worker.
     #[tactic(auto, using(crate::proofs::Moved::move_rules))]
     fn turn_and_share(&mut self, splitter: &X) -> Result<(), AllocError>
         requires key { IsClosedKey (X.step splitter.now) (X.lawful_task splitter.now)
@@ -209,7 +228,7 @@ impl<X: Splitter, N: Named<X::Task, X::Leaf>> Home<X, N> {
         requires free { self.old.events ≡ [] }
         ensures { OnOk result (Works N.events N.offers (X.step splitter.now) self.old self.new) }
     {
-        if self.turn(splitter)? {
+        if self.turn(splitter)? || self.offers_none() {
             self.share_one();
         }
         Ok(())
@@ -224,7 +243,7 @@ impl<X: Splitter, N: Named<X::Task, X::Leaf>> Home<X, N> {
     {
         let count = self.thieves.len();
         if count == 0 {
-            yield_now();
+            pause();
             return;
         }
         let k = *next % count;

@@ -1,4 +1,4 @@
-use Rattle.std.proofs.Common.{◌≡◌, ◌<◌, ℕ, refl, subst, sym, arith}
+use Rattle.std.proofs.Common.{◌<◌, ℕ, refl, subst, sym, arith}
 use Rattle.split_paths.specs.Key.{IsTrueOffer}
 use Rattle.split_paths.specs.Places.{Place}
 use Rattle.split_paths.specs.Tree.{offers_of}

@@ -5,7 +5,7 @@ use Rattle.polynomials.specs.Monomials.{monomial_product}
 use Rattle.polynomials.specs.Polynomials.{Polynomial, IsPolynomial, StartsBelow, product_of, difference_of}
 use Rattle.polynomials.specs.Fits.{fits}
 use Rattle.poly_quotient.proofs.Clauses.{some_then_true}
-use Rattle.poly_quotient.proofs.BegunDivisions.{first_is, few_from_fits, division_begun}
+use Rattle.poly_quotient.proofs.BegunDivisions.{first_is, division_begun}
 use Rattle.poly_quotient.proofs.boxed.begun.Goals as goal
 
 pub returns-then-starts_below-clause-division : goal.returns-then-starts_below-clause-division
@@ -19,7 +19,7 @@ returns-then-starts_below-clause-division c = λ u g whole.
     c.last_monomial-last.result (c.last_monomial-last.ensures.0, (c.last_monomial-last.ensures.1.0, sym c.terms-2.ensures.terms ∙ c.last_monomial-last.ensures.1.1))
     (subst (λ m. StartsBelow m c.in_ok-rest.rest) (c.product-then-fits.ensures ∙ ap (λ x. monomial_product c.last_monomial-last.result x.0) (sym c.index-terms-0.is ∙ lead_is)) below)
 
-pub returns-then-starts_below-clause-few : goal.returns-then-starts_below-clause-few
-returns-then-starts_below-clause-few c =
+pub returns-then-starts_below-clause-fit : goal.returns-then-starts_below-clause-fit
+returns-then-starts_below-clause-fit c =
     let q = c.in_ok-quotient.quotient in
-    few_from_fits c.args.w.width q c.args.b.now (some_then_true c.in_ok-product.field-0 c.in-Some-2.product (fits c.args.w.width q c.args.b.now) c.in_ok-product.ensures.none c.in-Some-2.is)
+    some_then_true c.in_ok-product.field-0 c.in-Some-2.product (fits c.args.w.width q c.args.b.now) c.in_ok-product.ensures.none c.in-Some-2.is

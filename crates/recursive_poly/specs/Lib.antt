@@ -1,0 +1,3 @@
+pub mod Recursive
+pub mod Laws
+pub mod Tails
