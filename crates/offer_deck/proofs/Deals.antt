@@ -15,7 +15,7 @@ use Rattle.offer_deck.specs.Views.{EmptyBeside}
 use Rattle.offer_deck.proofs.Counts.{all_front, all_back, weighs_within, all_at_one}
 use Rattle.offer_deck.specs.declared.rule.View.{View}
 use Rattle.offer_deck.specs.Passes.{owner_pass, thief_pass, idle_pass, with_thief, with_thief_back, with_offers, with_stolen}
-use Rattle.offer_deck.specs.Rule.{Trade, taken_weight, hands_of, FitsOwner, FitsDeck, KeepsDeck, Beside, BesideNone, AreFirst}
+use Rattle.offer_deck.specs.Rule.{Trade, taken_weight, hands_of, FitsOwner, FitsDeck, KeepsDeck, BesideHeld, BesideNone, AreFirst}
 
 module _ {A : Type 0} where
   -- a pass that took nothing and isn't the owner's fits any deck
@@ -271,14 +271,14 @@ module _ {A : Type 0} where
         all_taken v owns (omega arith) (views, pass, (trade, agrees), at_pass)
 
     -- where no offer was counted the deck was empty
-    pub none_counted : (v : View A) (n : ℕ) → (items : List A) × (length items ≡ n) × Beside IsTrue items v
+    pub none_counted : (v : View A) (n : ℕ) → (items : List A) × (length items ≡ n) × BesideHeld IsTrue items v
         → n ≡ 0 → BesideNone IsTrue v
     none_counted v n ([], count, beside) none = beside
     none_counted v n (x ∷ items, count, beside) none = absurd (omega arith)
 
     -- where one was, the owner took less than was made
     pub some_counted : (v : View A) (n : ℕ) → v.owns ≡ true
-        → (items : List A) × (length items ≡ n) × Beside IsTrue items v
+        → (items : List A) × (length items ≡ n) × BesideHeld IsTrue items v
         → n ≢ 0 → length v.taken < length v.made
     some_counted v n owns (items, count, (views, pass, (trade, agrees), at_pass)) more =
         let mine = (agrees.fits pass v at_pass).0 owns in

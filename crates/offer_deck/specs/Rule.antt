@@ -46,13 +46,13 @@ module _ {A : Type 0} where
   KeepsDeck IsTrue items views = (trade : Trade A) × AgreesOn trade IsTrue items views
 
   -- there are views of others that meet the rule beside this one, where the deck holds these
-  abbrev pub Beside : (A → Type 0) → List A → View A → Type 0
-  Beside IsTrue items view =
+  abbrev pub BesideHeld : (A → Type 0) → List A → View A → Type 0
+  BesideHeld IsTrue items view =
       (views : List (View A)) × (pass : ℕ) × KeepsDeck IsTrue items views × HasAt views pass view
 
   -- the same where it is empty
   abbrev pub BesideNone : (A → Type 0) → View A → Type 0
-  BesideNone IsTrue view = Beside IsTrue [] view
+  BesideNone IsTrue view = BesideHeld IsTrue [] view
 
   -- the offers that a pass takes are true, and an owner takes no more than were made
   pub record AreFirst (IsTrue : A → Type 0) (view : View A) (offers : List A) (after : View A)

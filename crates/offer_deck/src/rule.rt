@@ -85,7 +85,7 @@ pub struct Counts<X: Splitter, N: Named<X::Task, X::Leaf>> {
 
 impl<X: Splitter, N: Named<X::Task, X::Leaf>> Lesson<Offer<X>, View<Offer<X>>> for Counts<X, N> {
     ghost use Rattle.split_paths.specs.Key.{IsTrueOffer};
-    ghost use Rattle.offer_deck.specs.Rule.{Beside};
+    ghost use Rattle.offer_deck.specs.Rule.{BesideHeld};
 
-    ghost fact = { λ owner items. Beside (IsTrueOffer N.offers) items owner };
+    ghost fact = { λ owner items. BesideHeld (IsTrueOffer N.offers) items owner };
 }
