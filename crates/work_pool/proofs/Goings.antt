@@ -38,9 +38,9 @@ module _ {T L : Type 0} (events : List (Event L)) (offers : List (Place T)) (old
       (subst (λ (os : List (Place T)). AllByRecursion (IsTrueOffer offers) os)
       (sym (ap (λ (v : HomeView T L). v.offers) seen) ∙ held) desk.true_offers).0
 
-  pub true_places : (waiting : List (Place T)) → was.waiting ≡ waiting ∷ [] → AllByRecursion (IsTrueOffer offers) waiting
+  pub true_places : (waiting : List (Place T)) (rest : List (List (Place T))) → was.waiting ≡ waiting ∷ rest → AllByRecursion (IsTrueOffer offers) waiting
   unfolding IsAtWork
-  true_places waiting held =
+  true_places waiting rest held =
       (subst (λ (ws : List (List (Place T))). AllByRecursion (AllByRecursion (IsTrueOffer offers)) ws)
       (sym (ap (λ (v : HomeView T L). v.waiting) seen) ∙ held) desk.true_waiting).0
 
@@ -96,34 +96,34 @@ module _ {T L : Type 0} (events : List (Event L)) (offers : List (Place T)) (old
   pub none_recalled : (owner : OwnerView T) → owner ≡ was.owner → Moves events offers old (record was { owner = owner })
   none_recalled owner same = stays _ (ap (λ (o : OwnerView T). record was { owner = o }) same)
 
-  pub none_waits : (left : Option (List (Place T))) → option_to_list left ≡ was.waiting
-      → Moves events offers old (record was { waiting = option_to_list left })
-  none_waits left same = stays _ (ap (λ (ws : List (List (Place T))). record was { waiting = ws }) same)
+  pub none_waits : (left : Option (List (Place T))) (rest : List (List (Place T))) → option_to_list left ++ rest ≡ was.waiting
+      → Moves events offers old (record was { waiting = option_to_list left ++ rest })
+  none_waits left rest same = stays _ (ap (λ (ws : List (List (Place T))). record was { waiting = ws }) same)
 
-  pub is_given : (before after : List (Place T)) (offer : Place T) → was.waiting ≡ before ∷ [] → old.offers ≡ [] → before ≡ after ++ offer ∷ []
-      → Moves events offers old (record was { waiting = after ∷ []; offers = offer ∷ [] })
-  is_given before after offer waited free cut =
-      from_seen (record was { waiting = after ∷ []; offers = offer ∷ [] })
-      (give_one events offers was (record was { waiting = after ∷ []; offers = offer ∷ [] }) before after offer waited
+  pub is_given : (before after : List (Place T)) (rest : List (List (Place T))) (offer : Place T) → was.waiting ≡ before ∷ rest → old.offers ≡ [] → before ≡ after ++ offer ∷ []
+      → Moves events offers old (record was { waiting = after ∷ rest; offers = offer ∷ [] })
+  is_given before after rest offer waited free cut =
+      from_seen (record was { waiting = after ∷ rest; offers = offer ∷ [] })
+      (give_one events offers was (record was { waiting = after ∷ rest; offers = offer ∷ [] }) before after rest offer waited
       (ap (λ (v : HomeView T L). v.offers) seen ∙ free) cut refl)
 
-  pub may_be_given : (before after : List (Place T)) (given : Option (Place T)) → was.waiting ≡ before ∷ [] → old.offers ≡ []
+  pub may_be_given : (before after : List (Place T)) (rest : List (List (Place T))) (given : Option (Place T)) → was.waiting ≡ before ∷ rest → old.offers ≡ []
       → IfSome given (λ offer. before ≡ after ++ offer ∷ []) → IfNone given (after ≡ before)
-      → Moves events offers old (record was { waiting = after ∷ []; offers = option_to_list given })
-  may_be_given before after (Some offer) waited free cut same = is_given before after offer waited free cut
-  may_be_given before after None waited free cut same =
+      → Moves events offers old (record was { waiting = after ∷ rest; offers = option_to_list given })
+  may_be_given before after rest (Some offer) waited free cut same = is_given before after rest offer waited free cut
+  may_be_given before after rest None waited free cut same =
       stays _ (ap₂ (λ (ws : List (List (Place T))) (os : List (Place T)). record was { waiting = ws; offers = os })
-      (ap (λ (ps : List (Place T)). ps ∷ []) same ∙ sym waited)
+      (ap (λ (ps : List (Place T)). ps ∷ rest) same ∙ sym waited)
       (sym (ap (λ (v : HomeView T L). v.offers) seen ∙ free)))
 
-  pub is_begun : (offer : Place T) (waiting : List (Place T)) (left : Option (Place T)) → old.waiting ≡ [] → was.offers ≡ offer ∷ []
+  pub is_begun : (offer : Place T) (waiting : List (Place T)) (rest : List (List (Place T))) (left : Option (Place T)) → was.waiting ≡ rest → was.offers ≡ offer ∷ []
       → waiting ≡ offer ∷ [] → left ≡ None
-      → Moves events offers old (record was { waiting = waiting ∷ []; offers = option_to_list left })
-  is_begun offer waiting left free held waits none =
-      from_seen (record was { waiting = waiting ∷ []; offers = option_to_list left })
-      (begin_one events offers was (record was { waiting = waiting ∷ []; offers = option_to_list left }) offer
-      (ap (λ (v : HomeView T L). v.waiting) seen ∙ free) held
-      (ap₂ (λ (w : List (Place T)) (s : Option (Place T)). record was { waiting = w ∷ []; offers = option_to_list s }) waits none))
+      → Moves events offers old (record was { waiting = waiting ∷ rest; offers = option_to_list left })
+  is_begun offer waiting rest left waited held waits none =
+      from_seen (record was { waiting = waiting ∷ rest; offers = option_to_list left })
+      (begin_one events offers was (record was { waiting = waiting ∷ rest; offers = option_to_list left }) offer held
+      (ap₂ (λ (w : List (Place T)) (s : Option (Place T)). record was { waiting = w ∷ rest; offers = option_to_list s }) waits none
+      ∙ ap (λ (ws : List (List (Place T))). record was { waiting = (offer ∷ []) ∷ ws; offers = [] }) (sym waited)))
 
   pub is_stolen : (k : ℕ) (thief more : ThiefView T) (thieves : List (ThiefView T)) (offer : Place T) → old.offers ≡ [] → IsTrueOffer offers offer
       → k < length old.thieves → thief ≡ get_or was.thieves k thief → more ≡ record thief { taken = thief.taken ++ offer ∷ [] }
@@ -145,28 +145,29 @@ module _ {T L : Type 0} (events : List (Event L)) (offers : List (Place T)) (old
       (ap (λ (ts : List (ThiefView T)). record was { thieves = ts }) is))
 
   module _ (step : T → Step T L) (lawful : T → Type 0) (key : IsClosedKey step lawful events offers) where
-    pub met_event : (before after : List (Place T)) (event : Event L) → was.waiting ≡ before ∷ [] → old.events ≡ []
+    pub met_event : (before after : List (Place T)) (rest : List (List (Place T))) (event : Event L) → was.waiting ≡ before ∷ rest → old.events ≡ []
         → FirstGaveWay step before after (event ∷ []) → events_to_come step before ≡ event ∷ events_to_come step after
-        → Works events offers step old (record was { waiting = after ∷ []; events = event ∷ [] })
-    met_event before after event waited free way met =
-        works_seen step (record was { waiting = after ∷ []; events = event ∷ [] })
-        (event_met events offers step lawful was (record was { waiting = after ∷ []; events = event ∷ [] }) before after event key waited
+        → Works events offers step old (record was { waiting = after ∷ rest; events = event ∷ [] })
+    met_event before after rest event waited free way met =
+        works_seen step (record was { waiting = after ∷ rest; events = event ∷ [] })
+        (event_met events offers step lawful was (record was { waiting = after ∷ rest; events = event ∷ [] }) before after rest event key waited
         (ap (λ (v : HomeView T L). v.events) seen ∙ free) way met refl)
 
-    pub met_none : (before after : List (Place T)) → was.waiting ≡ before ∷ []
+    pub met_none : (before after : List (Place T)) (rest : List (List (Place T))) → was.waiting ≡ before ∷ rest
         → FirstGaveWay step before after [] → events_to_come step after ≡ events_to_come step before
-        → Works events offers step old (record was { waiting = after ∷ [] })
-    met_none before after waited way same =
-        works_seen step (record was { waiting = after ∷ [] })
-        (none_met events offers step lawful was (record was { waiting = after ∷ [] }) before after key waited way same refl)
+        → Works events offers step old (record was { waiting = after ∷ rest })
+    met_none before after rest waited way same =
+        works_seen step (record was { waiting = after ∷ rest })
+        (none_met events offers step lawful was (record was { waiting = after ∷ rest }) before after rest key waited way same refl)
 
-    pub met_all : (before : List (Place T)) (left : Option (List (Place T))) → was.waiting ≡ before ∷ [] → before ≡ [] → left ≡ None
-        → Works events offers step old (record was { waiting = option_to_list left })
-    met_all before left waited none done =
-        works_seen step (record was { waiting = option_to_list left })
-        (all_met events offers step lawful was (record was { waiting = option_to_list left }) before waited none
-        (ap (λ (w : Option (List (Place T))). record was { waiting = option_to_list w }) done))
+    pub met_all : (before : List (Place T)) (rest : List (List (Place T))) (left : Option (List (Place T))) → was.waiting ≡ before ∷ rest → before ≡ [] → left ≡ None
+        → Works events offers step old (record was { waiting = option_to_list left ++ rest })
+    met_all before rest left waited none done =
+        works_seen step (record was { waiting = option_to_list left ++ rest })
+        (all_met events offers step lawful was (record was { waiting = option_to_list left ++ rest }) before rest waited none
+        (ap (λ (w : Option (List (Place T))). record was { waiting = option_to_list w ++ rest }) done))
 
-    pub works_none : (left : Option (List (Place T))) → option_to_list left ≡ was.waiting
-        → Works events offers step old (record was { waiting = option_to_list left })
-    works_none left same = moves_work events offers step old (record was { waiting = option_to_list left }) (none_waits left same)
+    pub works_none : (left : Option (List (Place T))) (rest : List (List (Place T))) → option_to_list left ++ rest ≡ was.waiting
+        → Works events offers step old (record was { waiting = option_to_list left ++ rest })
+    works_none left rest same =
+        moves_work events offers step old (record was { waiting = option_to_list left ++ rest }) (none_waits left rest same)

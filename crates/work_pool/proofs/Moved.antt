@@ -51,9 +51,10 @@ module _ {T L : Type 0} (step : T → Step T L) where
   pub one_event : (h : Event L → ℕ) (event : Event L) → sum_by h (event ∷ []) ≡ h event
   one_event h event = let e = sum_by-cons h event [] in omega arith
 
-  pub one_list : (h : Event L → ℕ) (waiting : List (Place T))
-      → sum_by h (flat_map (events_to_come step) (waiting ∷ [])) ≡ weigh step h waiting
-  one_list h waiting = ap (sum_by h) (append-nil (events_to_come step waiting))
+  pub first_list : (h : Event L → ℕ) (waiting : List (Place T)) (rest : List (List (Place T)))
+      → sum_by h (flat_map (events_to_come step) (waiting ∷ rest))
+      ≡ weigh step h waiting + sum_by h (flat_map (events_to_come step) rest)
+  first_list h waiting rest = sum_by-append h (events_to_come step waiting) (flat_map (events_to_come step) rest)
 
 module _ {T L : Type 0} (events : List (Event L)) (offers : List (Place T)) where
   pub moves_itself : (v : HomeView T L) → IsAtWork events offers v → Moves events offers v v

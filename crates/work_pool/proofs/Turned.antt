@@ -14,28 +14,29 @@ use Rattle.split_paths.proofs.Lists.{all_append}
 use Rattle.work_pool.specs.Homes.{HomeView, IsDesk, decks_of}
 use Rattle.work_pool.specs.Works.{HasWorked, IsAtWork, Works, Moves}
 use Rattle.work_pool.proofs.Covered.{all_front, the_last, true_to_come}
-use Rattle.work_pool.proofs.Moved.{balance_moves, one_place, one_event, one_list, took, gave}
+use Rattle.work_pool.proofs.Moved.{balance_moves, one_place, one_event, first_list, took, gave}
 
 module _ {T L : Type 0} (events : List (Event L)) (offers : List (Place T)) where
   -- the last task that waits is given
-  pub give_one : (old new : HomeView T L) (was now : List (Place T)) (offer : Place T) → old.waiting ≡ was ∷ [] → old.offers ≡ []
+  pub give_one : (old new : HomeView T L) (was now : List (Place T)) (rest : List (List (Place T))) (offer : Place T) → old.waiting ≡ was ∷ rest → old.offers ≡ []
       → was ≡ now ++ offer ∷ []
-      → new ≡ record old { waiting = now ∷ []; offers = offer ∷ [] }
+      → new ≡ record old { waiting = now ∷ rest; offers = offer ∷ [] }
       → IsAtWork events offers old → Moves events offers old new
   unfolding IsAtWork Moves
-  give_one old new was now offer waited free cut is desk =
-      let known : AllByRecursion (IsTrueOffer offers) was =
-      (subst (λ (ws : List (List (Place T))). AllByRecursion (AllByRecursion (IsTrueOffer offers)) ws) waited desk.true_waiting).0 in
+  give_one old new was now rest offer waited free cut is desk =
+      let all : AllByRecursion (AllByRecursion (IsTrueOffer offers)) (was ∷ rest) =
+      subst (λ (ws : List (List (Place T))). AllByRecursion (AllByRecursion (IsTrueOffer offers)) ws) waited desk.true_waiting in
+      let known : AllByRecursion (IsTrueOffer offers) was = all.0 in
       subst (λ (v : HomeView T L). (step : T → Step T L) → HasWorked events offers step old v) (sym is) (λ step. record {
         desk = record {
           true_events = desk.true_events;
-          true_waiting = (all_front (IsTrueOffer offers) was now offer known cut, tt);
+          true_waiting = (all_front (IsTrueOffer offers) was now offer known cut, all.1);
           true_offers = (the_last (IsTrueOffer offers) was now offer known cut, tt);
         };
-        balances = λ starts. balance_moves step starts old (record old { waiting = now ∷ []; offers = offer ∷ [] }) (λ h.
+        balances = λ starts. balance_moves step starts old (record old { waiting = now ∷ rest; offers = offer ∷ [] }) (λ h.
             let none : weigh step h old.offers ≡ 0 = ap (weigh step h) free in
-            let one = ap (λ (ws : List (List (Place T))). sum_by h (flat_map (events_to_come step) ws)) waited ∙ one_list step h was in
-            let two = one_list step h now in
+            let one = ap (λ (ws : List (List (Place T))). sum_by h (flat_map (events_to_come step) ws)) waited ∙ first_list step h was rest in
+            let two = first_list step h now rest in
             let three = ap (weigh step h) cut ∙ weigh-append step h now (offer ∷ []) in omega arith);
         hub = refl;
         number = refl;
@@ -45,18 +46,17 @@ module _ {T L : Type 0} (events : List (Event L)) (offers : List (Place T)) wher
       })
 
   -- the task that is held waits
-  pub begin_one : (old new : HomeView T L) (offer : Place T) → old.waiting ≡ [] → old.offers ≡ offer ∷ []
-      → new ≡ record old { waiting = (offer ∷ []) ∷ []; offers = [] }
+  pub begin_one : (old new : HomeView T L) (offer : Place T) → old.offers ≡ offer ∷ []
+      → new ≡ record old { waiting = (offer ∷ []) ∷ old.waiting; offers = [] }
       → IsAtWork events offers old → Moves events offers old new
   unfolding IsAtWork Moves
-  begin_one old new offer free held is desk =
+  begin_one old new offer held is desk =
       let known : AllByRecursion (IsTrueOffer offers) (offer ∷ []) =
       subst (λ (os : List (Place T)). AllByRecursion (IsTrueOffer offers) os) held desk.true_offers in
       subst (λ (v : HomeView T L). (step : T → Step T L) → HasWorked events offers step old v) (sym is) (λ step. record {
-        desk = record { true_events = desk.true_events; true_waiting = (known, tt); true_offers = tt };
-        balances = λ starts. balance_moves step starts old (record old { waiting = (offer ∷ []) ∷ []; offers = [] }) (λ h.
-            let none : sum_by h (flat_map (events_to_come step) old.waiting) ≡ 0 = ap (λ (ws : List (List (Place T))). sum_by h (flat_map (events_to_come step) ws)) free in
-            let one = one_list step h (offer ∷ []) in
+        desk = record { true_events = desk.true_events; true_waiting = (known, desk.true_waiting); true_offers = tt };
+        balances = λ starts. balance_moves step starts old (record old { waiting = (offer ∷ []) ∷ old.waiting; offers = [] }) (λ h.
+            let one = first_list step h (offer ∷ []) old.waiting in
             let two = ap (weigh step h) held in omega arith);
         hub = refl;
         number = refl;
@@ -76,27 +76,28 @@ module _ {T L : Type 0} (events : List (Event L)) (offers : List (Place T)) wher
         (all_append (IsTrueOffer offers) (children_of step way.first) way.rest (key way.first all.0).kids all.1)
 
     -- a turn met an event
-    pub event_met : (old new : HomeView T L) (was now : List (Place T)) (event : Event L) → IsClosedKey step lawful events offers
-        → old.waiting ≡ was ∷ [] → old.events ≡ []
+    pub event_met : (old new : HomeView T L) (was now : List (Place T)) (rest : List (List (Place T))) (event : Event L) → IsClosedKey step lawful events offers
+        → old.waiting ≡ was ∷ rest → old.events ≡ []
         → FirstGaveWay step was now (event ∷ []) → events_to_come step was ≡ event ∷ events_to_come step now
-        → new ≡ record old { waiting = now ∷ []; events = event ∷ [] }
+        → new ≡ record old { waiting = now ∷ rest; events = event ∷ [] }
         → IsAtWork events offers old → Works events offers step old new
     unfolding IsAtWork Works
-    event_met old new was now event key waited free way met is desk =
-        let known : AllByRecursion (IsTrueOffer offers) was =
-        (subst (λ (ws : List (List (Place T))). AllByRecursion (AllByRecursion (IsTrueOffer offers)) ws) waited desk.true_waiting).0 in
+    event_met old new was now rest event key waited free way met is desk =
+        let all : AllByRecursion (AllByRecursion (IsTrueOffer offers)) (was ∷ rest) =
+        subst (λ (ws : List (List (Place T))). AllByRecursion (AllByRecursion (IsTrueOffer offers)) ws) waited desk.true_waiting in
+        let known : AllByRecursion (IsTrueOffer offers) was = all.0 in
         let here : AllByRecursion (IsTrueEvent events) (event ∷ events_to_come step now) =
         subst (λ (es : List (Event L)). AllByRecursion (IsTrueEvent events) es) met (true_to_come step lawful events offers was key known) in
         subst (λ (v : HomeView T L). HasWorked events offers step old v) (sym is) (record {
           desk = record {
             true_events = (here.0, tt);
-            true_waiting = (waits_true was now (event ∷ []) key way known, tt);
+            true_waiting = (waits_true was now (event ∷ []) key way known, all.1);
             true_offers = desk.true_offers;
           };
-          balances = λ starts. balance_moves step starts old (record old { waiting = now ∷ []; events = event ∷ [] }) (λ h.
+          balances = λ starts. balance_moves step starts old (record old { waiting = now ∷ rest; events = event ∷ [] }) (λ h.
               let none : sum_by h old.events ≡ 0 = ap (sum_by h) free in
-              let one = ap (λ (ws : List (List (Place T))). sum_by h (flat_map (events_to_come step) ws)) waited ∙ one_list step h was in
-              let two = one_list step h now in
+              let one = ap (λ (ws : List (List (Place T))). sum_by h (flat_map (events_to_come step) ws)) waited ∙ first_list step h was rest in
+              let two = first_list step h now rest in
               let three = ap (sum_by h) met ∙ sum_by-cons h event (events_to_come step now) in
               let four = one_event step h event in omega arith);
           hub = refl;
@@ -107,24 +108,25 @@ module _ {T L : Type 0} (events : List (Event L)) (offers : List (Place T)) wher
         })
 
     -- a turn met none
-    pub none_met : (old new : HomeView T L) (was now : List (Place T)) → IsClosedKey step lawful events offers
-        → old.waiting ≡ was ∷ []
+    pub none_met : (old new : HomeView T L) (was now : List (Place T)) (rest : List (List (Place T))) → IsClosedKey step lawful events offers
+        → old.waiting ≡ was ∷ rest
         → FirstGaveWay step was now [] → events_to_come step now ≡ events_to_come step was
-        → new ≡ record old { waiting = now ∷ [] }
+        → new ≡ record old { waiting = now ∷ rest }
         → IsAtWork events offers old → Works events offers step old new
     unfolding IsAtWork Works
-    none_met old new was now key waited way same is desk =
-        let known : AllByRecursion (IsTrueOffer offers) was =
-        (subst (λ (ws : List (List (Place T))). AllByRecursion (AllByRecursion (IsTrueOffer offers)) ws) waited desk.true_waiting).0 in
+    none_met old new was now rest key waited way same is desk =
+        let all : AllByRecursion (AllByRecursion (IsTrueOffer offers)) (was ∷ rest) =
+        subst (λ (ws : List (List (Place T))). AllByRecursion (AllByRecursion (IsTrueOffer offers)) ws) waited desk.true_waiting in
+        let known : AllByRecursion (IsTrueOffer offers) was = all.0 in
         subst (λ (v : HomeView T L). HasWorked events offers step old v) (sym is) (record {
           desk = record {
             true_events = desk.true_events;
-            true_waiting = (waits_true was now [] key way known, tt);
+            true_waiting = (waits_true was now [] key way known, all.1);
             true_offers = desk.true_offers;
           };
-          balances = λ starts. balance_moves step starts old (record old { waiting = now ∷ [] }) (λ h.
-              let one = ap (λ (ws : List (List (Place T))). sum_by h (flat_map (events_to_come step) ws)) waited ∙ one_list step h was in
-              let two = one_list step h now in
+          balances = λ starts. balance_moves step starts old (record old { waiting = now ∷ rest }) (λ h.
+              let one = ap (λ (ws : List (List (Place T))). sum_by h (flat_map (events_to_come step) ws)) waited ∙ first_list step h was rest in
+              let two = first_list step h now rest in
               let three = ap (sum_by h) same in omega arith);
           hub = refl;
           number = refl;
@@ -134,15 +136,17 @@ module _ {T L : Type 0} (events : List (Event L)) (offers : List (Place T)) wher
         })
 
     -- nothing waits any more
-    pub all_met : (old new : HomeView T L) (was : List (Place T)) → old.waiting ≡ was ∷ [] → was ≡ []
-        → new ≡ record old { waiting = [] }
+    pub all_met : (old new : HomeView T L) (was : List (Place T)) (rest : List (List (Place T))) → old.waiting ≡ was ∷ rest → was ≡ []
+        → new ≡ record old { waiting = rest }
         → IsAtWork events offers old → Works events offers step old new
     unfolding IsAtWork Works
-    all_met old new was waited none is desk =
+    all_met old new was rest waited none is desk =
+        let all : AllByRecursion (AllByRecursion (IsTrueOffer offers)) (was ∷ rest) =
+        subst (λ (ws : List (List (Place T))). AllByRecursion (AllByRecursion (IsTrueOffer offers)) ws) waited desk.true_waiting in
         subst (λ (v : HomeView T L). HasWorked events offers step old v) (sym is) (record {
-          desk = record { true_events = desk.true_events; true_waiting = tt; true_offers = desk.true_offers };
-          balances = λ starts. balance_moves step starts old (record old { waiting = [] }) (λ h.
-              let one = ap (λ (ws : List (List (Place T))). sum_by h (flat_map (events_to_come step) ws)) waited ∙ one_list step h was in
+          desk = record { true_events = desk.true_events; true_waiting = all.1; true_offers = desk.true_offers };
+          balances = λ starts. balance_moves step starts old (record old { waiting = rest }) (λ h.
+              let one = ap (λ (ws : List (List (Place T))). sum_by h (flat_map (events_to_come step) ws)) waited ∙ first_list step h was rest in
               let two : weigh step h was ≡ 0 = ap (weigh step h) none in omega arith);
           hub = refl;
           number = refl;

@@ -3,6 +3,7 @@ ghost use Rattle.std.specs.Prelude.{◌≡◌, ◌<◌, ◌↔◌, [], ◌∷◌
 ghost use Rattle.split_paths.specs.Key.{IsClosedKey};
 ghost use Rattle.work_pool.specs.Works.{IsAtWork, Moves, Works};
 
+use crate::first_stop::FirstStop;
 use crate::homes::Home;
 use event_lanes::Hub;
 use generators::{Generator, Turn};
@@ -25,7 +26,7 @@ fn pause() {
 }
 
 impl<X: Splitter, N: Named<X::Task, X::Leaf>> Home<X, N> {
-    /// Tries to put the event that is held, and lets others run where there is no room.
+    /// Tries to put the event that is held, and pauses where there is no room.
     fn put<R: Wait>(&mut self, rt: &R, hub: &Hub<X, N>)
         requires desk { IsAtWork N.events N.offers self.old }
         requires hub { self.old.lane.hub ≡ hub.now.name }
@@ -36,7 +37,7 @@ impl<X: Splitter, N: Named<X::Task, X::Leaf>> Home<X, N> {
         };
         if let Err(full) = hub.put(rt, &mut self.lane, event) {
             self.event = Some(full.event);
-            yield_now();
+            pause();
         }
     }
 
@@ -111,12 +112,15 @@ impl<X: Splitter, N: Named<X::Task, X::Leaf>> Home<X, N> {
         }
     }
 
-    /// Lets the task that is held wait, as the only one.
-    fn begin(&mut self, alloc: Global) -> Result<(), AllocError>
-        requires desk { IsAtWork N.events N.offers self.old }
-        requires free { self.old.waiting ≡ [] }
+    /// Lets the task that is held wait, as the only one of a new generator, unless there is one.
+    fn start(&mut self, alloc: Global) -> Result<(), AllocError>
+        requires { IsAtWork N.events N.offers self.old }
         ensures { OnOk result (Moves N.events N.offers self.old self.new) }
     {
+        match &self.generator {
+            Some(_) => return Ok(()),
+            None => {}
+        }
         let Some(offer) = self.offer.take() else {
             return Ok(());
         };
@@ -148,10 +152,8 @@ impl<X: Splitter, N: Named<X::Task, X::Leaf>> Home<X, N> {
         }
     }
 
-    /// Whether there is no generator.
-    fn is_idle(&self) -> bool
-        ensures { IsTrue result ↔ (self.now.waiting ≡ []) }
-    {
+    /// Whether there is no generator of which turns are made.
+    fn is_idle(&self) -> bool {
         match &self.generator {
             Some(_) => false,
             None => true,
@@ -219,18 +221,58 @@ impl<X: Splitter, N: Named<X::Task, X::Leaf>> Home<X, N> {
         }
     }
 
-    /// Makes a turn, and offers a task after a split, or where thieves find no offer of this worker.
+    /// Begins with the task that is held, or sets it aside where the answer stops before it.
     #[tactic(auto, using(crate::proofs::Moved::move_rules))]
-    fn turn_and_share(&mut self, splitter: &X) -> Result<(), AllocError>
+    fn begin<R: Wait>(&mut self, rt: &R, alloc: Global, stop: &FirstStop) -> Result<(), AllocError>
+        requires { IsAtWork N.events N.offers self.old }
+        ensures { OnOk result (Moves N.events N.offers self.old self.new) }
+    {
+        let in_vain = self.is_held_in_vain(rt, stop);
+        self.start(alloc)?;
+        if in_vain {
+            self.set_aside()?;
+        }
+        Ok(())
+    }
+
+    /// Sets the generator aside where the answer stops before all that waits. Else offers a task: after
+    /// a split, or where thieves find no offer of this worker.
+    #[tactic(auto, using(crate::proofs::Moved::move_rules))]
+    fn share_or_set_aside<R: Wait>(
+        &mut self,
+        rt: &R,
+        stop: &FirstStop,
+        split: bool,
+    ) -> Result<(), AllocError>
+        requires { IsAtWork N.events N.offers self.old }
+        ensures { OnOk result (Moves N.events N.offers self.old self.new) }
+    {
+        if self.waits_in_vain(rt, stop) {
+            return self.set_aside();
+        }
+        if split || self.offers_none() {
+            self.share_one();
+        }
+        Ok(())
+    }
+
+    /// Makes a turn, and shares what waits then.
+    #[tactic(auto, using(crate::proofs::Moved::move_rules))]
+    fn turn_and_share<R: Wait>(
+        &mut self,
+        rt: &R,
+        splitter: &X,
+        stop: &FirstStop,
+    ) -> Result<(), AllocError>
         requires key { IsClosedKey (X.step splitter.now) (X.lawful_task splitter.now)
             N.events N.offers }
         requires desk { IsAtWork N.events N.offers self.old }
         requires free { self.old.events ≡ [] }
         ensures { OnOk result (Works N.events N.offers (X.step splitter.now) self.old self.new) }
     {
-        if self.turn(splitter)? || self.offers_none() {
-            self.share_one();
-        }
+        let split = self.turn(splitter)?;
+        self.tell_stop(rt, stop);
+        self.share_or_set_aside(rt, stop, split)?;
         Ok(())
     }
 
@@ -272,6 +314,7 @@ impl<X: Splitter, N: Named<X::Task, X::Leaf>> Home<X, N> {
         alloc: Global,
         splitter: &X,
         hub: &Hub<X, N>,
+        stop: &FirstStop,
         next: &mut usize,
     ) -> Result<(), AllocError>
         requires key { IsClosedKey (X.step splitter.now) (X.lawful_task splitter.now)
@@ -285,10 +328,10 @@ impl<X: Splitter, N: Named<X::Task, X::Leaf>> Home<X, N> {
             return Ok(());
         }
         if !self.is_idle() {
-            return self.turn_and_share(splitter);
+            return self.turn_and_share(rt, splitter, stop);
         }
         if !self.is_free() {
-            return self.begin(alloc);
+            return self.begin(rt, alloc, stop);
         }
         self.find(rt, next);
         Ok(())

@@ -19,11 +19,14 @@ pub(crate) struct Home<X: Splitter, N: Named<X::Task, X::Leaf>> {
     pub(crate) thieves: Vec<Thief<X, N>>,
     pub(crate) event: Option<Event<X::Leaf>>,
     pub(crate) generator: Option<Generator<X>>,
+    /// Generators of which no turn is needed, as far as is known.
+    pub(crate) aside: Items<Generator<X>>,
     pub(crate) offer: Option<Offer<X>>,
 }
 
 impl<X: Splitter, N: Named<X::Task, X::Leaf>> Model for Home<X, N> {
     ghost use Rattle.std.specs.Option.{option_to_list};
+    ghost use Rattle.std.specs.Prelude.{◌++◌};
     ghost use Rattle.work_pool.specs.Homes.{HomeView};
 
     ghost Value = { HomeView X.Task X.Leaf };
@@ -33,7 +36,7 @@ impl<X: Splitter, N: Named<X::Task, X::Leaf>> Model for Home<X, N> {
       owner = home.owner;
       thieves = home.thieves.items;
       events = option_to_list home.event;
-      waiting = option_to_list home.generator;
+      waiting = option_to_list home.generator ++ home.aside;
       offers = option_to_list home.offer;
     } };
 }
@@ -99,6 +102,7 @@ impl<X: Splitter, N: Named<X::Task, X::Leaf>> Homes<X, N> {
             thieves,
             event,
             generator,
+            mut aside,
             offer,
         } = home;
         self.lanes.push(lane)?;
@@ -106,6 +110,7 @@ impl<X: Splitter, N: Named<X::Task, X::Leaf>> Homes<X, N> {
         self.rows.push(Row::of(thieves))?;
         push_some(&mut self.events, event)?;
         push_some(&mut self.waiting, generator)?;
+        self.waiting.append(&mut aside)?;
         push_some(&mut self.offers, offer)?;
         Ok(())
     }

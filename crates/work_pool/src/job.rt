@@ -1,14 +1,13 @@
 ghost use Rattle.work_pool.specs.Jobs.{HandsHome, IsReady};
 
 use crate::homes::Home;
+use crate::signals::Signals;
 use crate::worker::work;
-use crossbeam_utils::CachePadded;
 use event_lanes::Hub;
 use split_paths::{Named, Splitter};
 use std::alloc::{AllocError, Global};
 use std::marker::Model;
 use std::snapshot::Snapshot;
-use std::sync::atomic::AtomicBool;
 use std::sync::{Arc, Wait};
 use std::thread::Promise;
 
@@ -17,7 +16,7 @@ use std::thread::Promise;
 pub(crate) struct Job<X: Splitter, N: Named<X::Task, X::Leaf>> {
     pub(crate) splitter: Arc<X, Global>,
     pub(crate) hub: Arc<Hub<X, N>, Global>,
-    pub(crate) closing: Arc<CachePadded<AtomicBool>, Global>,
+    pub(crate) signals: Arc<Signals, Global>,
     pub(crate) desk: Home<X, N>,
 }
 
@@ -58,8 +57,8 @@ pub(crate) fn do_job<R: Wait, X: Splitter, N: Named<X::Task, X::Leaf>>(
     let Job {
         splitter,
         hub,
-        closing,
+        signals,
         desk,
     } = job;
-    work(rt, alloc, &*splitter, &*hub, &**closing, desk)
+    work(rt, alloc, &*splitter, &*hub, &*signals, desk)
 }

@@ -8,6 +8,7 @@ ghost use Rattle.work_pool.specs.Works.{IsAtWork, Works};
 
 use crate::homes::Home;
 use crate::rest::note_waiting;
+use crate::signals::Signals;
 use crate::taker::{End, PoolError, Taker};
 use crate::walk::hand_ready;
 use collector::Collector;
@@ -15,7 +16,6 @@ use event_lanes::{Drain, Hub};
 use split_paths::{Named, Splitter};
 use std::alloc::Global;
 use std::sync::Wait;
-use std::sync::atomic::{AtomicBool, Ordering};
 
 /// Notes what the lanes hold, and hands out what is ready then.
 pub(crate) fn empty<R: Wait, X: Splitter, N: Named<X::Task, X::Leaf>, K: Taker<X::Leaf>>(
@@ -56,7 +56,7 @@ pub(crate) fn lead<R: Wait, X: Splitter, N: Named<X::Task, X::Leaf>, K: Taker<X:
     alloc: Global,
     splitter: &X,
     hub: &Hub<X, N>,
-    closing: &AtomicBool,
+    signals: &Signals,
     desk: &mut Home<X, N>,
     drain: &mut Drain<X, N>,
     collector: &mut Collector<X, N>,
@@ -87,7 +87,7 @@ pub(crate) fn lead<R: Wait, X: Splitter, N: Named<X::Task, X::Leaf>, K: Taker<X:
 {
     let mut next = 0;
     for _ in rt.forever() {
-        if closing.load(Ordering::SeqCst) {
+        if signals.is_closing() {
             return Ok(None);
         }
         match empty(rt, alloc, hub, drain, collector, each) {
@@ -95,7 +95,7 @@ pub(crate) fn lead<R: Wait, X: Splitter, N: Named<X::Task, X::Leaf>, K: Taker<X:
             Ok(Some(end)) => return Ok(Some(end)),
             Err(error) => return Err(error),
         }
-        match desk.go_on(rt, alloc, splitter, hub, &mut next) {
+        match desk.go_on(rt, alloc, splitter, hub, &signals.stop, &mut next) {
             Ok(()) => {}
             Err(_) => return Err(PoolError::Memory),
         }

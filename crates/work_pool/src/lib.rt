@@ -1,10 +1,12 @@
 //! A tree of splits, walked by several workers, whose answer is handed out in path order.
 #![tactic(auto)]
 
+mod aside;
 mod close;
 mod column;
 mod desk;
 mod end;
+mod first_stop;
 mod homes;
 mod job;
 mod lead;
@@ -13,6 +15,7 @@ mod rest;
 mod run;
 mod seats;
 mod setup;
+mod signals;
 mod start;
 mod taker;
 #[cfg(test)]

@@ -14,6 +14,7 @@ use crate::end::conclude;
 use crate::homes::{Home, Homes};
 use crate::job::Job;
 use crate::setup::begin;
+use crate::signals::Signals;
 use crate::start::run_all;
 use crate::taker::{End, PoolError, PoolSize, Taker};
 use collector::Collector;
@@ -22,7 +23,6 @@ use item_lists::Items;
 use split_paths::{Named, Offer, Path, Splitter};
 use std::alloc::{AllocError, Global};
 use std::marker::Brand;
-use std::sync::atomic::AtomicBool;
 use std::sync::{Arc, Wait};
 use std::thread::Threads;
 
@@ -78,7 +78,7 @@ fn run_jobs<
     alloc: Global,
     splitter: &X,
     hub: &Hub<X, N>,
-    closing: &AtomicBool,
+    signals: &Signals,
     jobs: Items<Job<X, N>>,
     desk: Home<X, N>,
     mut drain: Drain<X, N>,
@@ -104,7 +104,7 @@ where
         alloc,
         splitter,
         hub,
-        closing,
+        signals,
         jobs,
         desk,
         &mut drain,
@@ -153,12 +153,12 @@ where
     ensures cut { IfErr result (λ error. IsCut K.takes K.fails each.old
         (answer_of N.events).chains error each.new) }
 {
-    let Ok((hub, closing, jobs, desk, drain)) = begin::<X, N>(alloc, &splitter, root, size) else {
+    let Ok((hub, signals, jobs, desk, drain)) = begin::<X, N>(alloc, &splitter, root, size) else {
         return Err(PoolError::Memory);
     };
     let collector = Collector::new(alloc);
     run_jobs(
-        rt, alloc, &*splitter, &*hub, &**closing, jobs, desk, drain, collector, each,
+        rt, alloc, &*splitter, &*hub, &*signals, jobs, desk, drain, collector, each,
     )
 }
 

@@ -70,6 +70,7 @@ pub(crate) fn seat<X: Splitter, N: Named<X::Task, X::Leaf>>(
             thieves,
             event: None,
             generator: None,
+            aside: Items::new(alloc),
             offer: None,
         };
         desks.push_front(desk)?;

@@ -9,14 +9,13 @@ ghost use Rattle.work_pool.specs.Seats.{AreJobs, IsSetUp};
 use crate::homes::Home;
 use crate::job::Job;
 use crate::seats::{new_decks, seat};
+use crate::signals::Signals;
 use crate::taker::PoolSize;
-use crossbeam_utils::CachePadded;
 use event_lanes::{Drain, Hub};
 use item_lists::Items;
 use split_paths::{Named, Offer, Splitter};
 use std::alloc::{AllocError, Global};
 use std::sync::Arc;
-use std::sync::atomic::AtomicBool;
 
 /// What a run begins with: the hub, its drain and the desks of all workers.
 fn set_up<X: Splitter, N: Named<X::Task, X::Leaf>>(
@@ -44,7 +43,7 @@ fn set_up<X: Splitter, N: Named<X::Task, X::Leaf>>(
 fn job_of<X: Splitter, N: Named<X::Task, X::Leaf>>(
     splitter: &Arc<X, Global>,
     hub: &Arc<Hub<X, N>, Global>,
-    closing: &Arc<CachePadded<AtomicBool>, Global>,
+    signals: &Arc<Signals, Global>,
     desk: Home<X, N>,
 ) -> Result<Job<X, N>, AllocError>
     ensures splitter { IfOk result (λ job. job.splitter ≡ arc_value splitter.now) }
@@ -57,13 +56,13 @@ fn job_of<X: Splitter, N: Named<X::Task, X::Leaf>>(
     let Ok(hub) = Arc::try_clone(hub) else {
         return Err(AllocError);
     };
-    let Ok(closing) = Arc::try_clone(closing) else {
+    let Ok(signals) = Arc::try_clone(signals) else {
         return Err(AllocError);
     };
     Ok(Job {
         splitter,
         hub,
-        closing,
+        signals,
         desk,
     })
 }
@@ -73,14 +72,14 @@ fn jobs_of<X: Splitter, N: Named<X::Task, X::Leaf>>(
     alloc: Global,
     splitter: &Arc<X, Global>,
     hub: &Arc<Hub<X, N>, Global>,
-    closing: &Arc<CachePadded<AtomicBool>, Global>,
+    signals: &Arc<Signals, Global>,
     mut desks: Items<Home<X, N>>,
 ) -> Result<Items<Job<X, N>>, AllocError>
     ensures { IfOk result (AreJobs (arc_value splitter.now) (arc_value hub.now).name desks) }
 {
     let mut jobs = Items::new(alloc);
     while let Some(desk) = desks.take_last() {
-        let Ok(job) = job_of(splitter, hub, closing, desk) else {
+        let Ok(job) = job_of(splitter, hub, signals, desk) else {
             return Err(AllocError);
         };
         jobs.push_front(job)?;
@@ -112,15 +111,15 @@ fn shared<X: Splitter, N: Named<X::Task, X::Leaf>>(
     }
 }
 
-/// The closing word, which isn't set.
-fn new_word(alloc: Global) -> Result<Arc<CachePadded<AtomicBool>, Global>, AllocError> {
-    match Arc::new(alloc, CachePadded::new(AtomicBool::new(false))) {
-        Ok(word) => Ok(word),
+/// The signals, of which none is given.
+fn new_signals(alloc: Global) -> Result<Arc<Signals, Global>, AllocError> {
+    match Arc::new(alloc, Signals::new()) {
+        Ok(signals) => Ok(signals),
         Err(_) => Err(AllocError),
     }
 }
 
-/// What a run begins with: the hub, the closing word, the jobs of all workers but the first, what the
+/// What a run begins with: the hub, the signals, the jobs of all workers but the first, what the
 /// first holds, and the drain.
 pub(crate) fn begin<X: Splitter, N: Named<X::Task, X::Leaf>>(
     alloc: Global,
@@ -130,7 +129,7 @@ pub(crate) fn begin<X: Splitter, N: Named<X::Task, X::Leaf>>(
 ) -> Result<
     (
         Arc<Hub<X, N>, Global>,
-        Arc<CachePadded<AtomicBool>, Global>,
+        Arc<Signals, Global>,
         Items<Job<X, N>>,
         Home<X, N>,
         Drain<X, N>,
@@ -156,11 +155,11 @@ pub(crate) fn begin<X: Splitter, N: Named<X::Task, X::Leaf>>(
     let Ok(hub) = shared(alloc, hub) else {
         return Err(AllocError);
     };
-    let Ok(closing) = new_word(alloc) else {
+    let Ok(signals) = new_signals(alloc) else {
         return Err(AllocError);
     };
-    let Ok(jobs) = jobs_of(alloc, splitter, &hub, &closing, desks) else {
+    let Ok(jobs) = jobs_of(alloc, splitter, &hub, &signals, desks) else {
         return Err(AllocError);
     };
-    Ok((hub, closing, jobs, first, drain))
+    Ok((hub, signals, jobs, first, drain))
 }

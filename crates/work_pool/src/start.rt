@@ -6,6 +6,7 @@ ghost use Rattle.work_pool.specs.Runs.{CanRun, HasRun};
 use crate::homes::{Home, Homes};
 use crate::job::{Job, Kept, do_job};
 use crate::lead::lead;
+use crate::signals::Signals;
 use crate::taker::{End, PoolError, Taker};
 use collector::Collector;
 use event_lanes::{Drain, Hub};
@@ -14,7 +15,6 @@ use split_paths::{Named, Splitter};
 use std::alloc::{AllocError, Global};
 use std::snapshot::Snapshot;
 use std::sync::Wait;
-use std::sync::atomic::{AtomicBool, Ordering};
 use std::thread::{self, Threads};
 
 /// The first home.
@@ -58,7 +58,7 @@ fn lead_home<R: Wait, X: Splitter, N: Named<X::Task, X::Leaf>, K: Taker<X::Leaf>
     alloc: Global,
     splitter: &X,
     hub: &Hub<X, N>,
-    closing: &AtomicBool,
+    signals: &Signals,
     mut desk: Home<X, N>,
     drain: &mut Drain<X, N>,
     collector: &mut Collector<X, N>,
@@ -74,9 +74,9 @@ fn lead_home<R: Wait, X: Splitter, N: Named<X::Task, X::Leaf>, K: Taker<X::Leaf>
         result.0 result.1 }
 {
     let ready = lead(
-        rt, alloc, splitter, hub, closing, &mut desk, drain, collector, each,
+        rt, alloc, splitter, hub, signals, &mut desk, drain, collector, each,
     );
-    closing.store(true, Ordering::SeqCst);
+    signals.close();
     let homes = home_alone(alloc, desk);
     (ready, homes)
 }
@@ -94,7 +94,7 @@ pub(crate) fn run_all<
     alloc: Global,
     splitter: &X,
     hub: &Hub<X, N>,
-    closing: &AtomicBool,
+    signals: &Signals,
     mut jobs: Items<Job<X, N>>,
     desk: Home<X, N>,
     drain: &mut Drain<X, N>,
@@ -115,7 +115,7 @@ where
 {
     let Some(job) = jobs.take_last() else {
         return lead_home(
-            &rt, alloc, splitter, hub, closing, desk, drain, collector, each,
+            &rt, alloc, splitter, hub, signals, desk, drain, collector, each,
         );
     };
     let promise = Kept(Snapshot::of(&job));
@@ -131,7 +131,7 @@ where
         },
     );
     let (ready, homes) = run_all(
-        rt, alloc, splitter, hub, closing, jobs, desk, drain, collector, each,
+        rt, alloc, splitter, hub, signals, jobs, desk, drain, collector, each,
     );
     let home = match started {
         Ok(child) => child.join(&rt),

@@ -3,11 +3,11 @@ ghost use Rattle.split_paths.specs.Key.{IsClosedKey};
 ghost use Rattle.work_pool.specs.Works.{IsAtWork, Works};
 
 use crate::homes::Home;
+use crate::signals::Signals;
 use event_lanes::Hub;
 use split_paths::{Named, Splitter};
 use std::alloc::{AllocError, Global};
 use std::sync::Wait;
-use std::sync::atomic::{AtomicBool, Ordering};
 
 /// Works until the closing word is set, and hands home what it holds then.
 ///
@@ -18,7 +18,7 @@ pub(crate) fn work<R: Wait, X: Splitter, N: Named<X::Task, X::Leaf>>(
     alloc: Global,
     splitter: &X,
     hub: &Hub<X, N>,
-    closing: &AtomicBool,
+    signals: &Signals,
     mut desk: Home<X, N>,
 ) -> Result<Home<X, N>, AllocError>
     requires key { IsClosedKey (X.step splitter.now) (X.lawful_task splitter.now)
@@ -29,13 +29,13 @@ pub(crate) fn work<R: Wait, X: Splitter, N: Named<X::Task, X::Leaf>>(
 {
     let mut next = 0;
     for _ in rt.forever() {
-        if closing.load(Ordering::SeqCst) {
+        if signals.is_closing() {
             return Ok(desk);
         }
-        match desk.go_on(rt, alloc, splitter, hub, &mut next) {
+        match desk.go_on(rt, alloc, splitter, hub, &signals.stop, &mut next) {
             Ok(()) => {}
             Err(error) => {
-                closing.store(true, Ordering::SeqCst);
+                signals.close();
                 return Err(error);
             }
         }

@@ -1,5 +1,6 @@
-use Rattle.std.proofs.Common.{◌≡◌, ◌+◌, ◌++◌, ◌∷◌, [], length, map, length-append, append-nil, sym, ap, ◌∙◌, subst, arith}
+use Rattle.std.proofs.Common.{◌≡◌, ◌+◌, ◌++◌, ◌∷◌, List, [], length, map, length-append, append-nil, sym, ap, ◌∙◌, subst, arith}
 use Rattle.event_lanes.specs.Views.{LaneView}
+use Rattle.split_paths.specs.Places.{Place}
 use Rattle.offer_deck.specs.Views.{OwnerView}
 use Rattle.work_pool.specs.Homes.{HomeView}
 use Rattle.work_pool.specs.Seats.{AreDesks, IsNewOwner}
@@ -45,6 +46,9 @@ loop-owner-preserved g c =
       stock = next.1;
       cut = next.2;
       desks = subst (λ ds. AreDesks c.args.hub.now.name (map (λ (o : OwnerView _). o.deck) c.args.owners) (length c.take_last.new.self) ds)
-          (sym c.in_ok-push_front.ensures.ok) next.0;
+          (sym c.in_ok-push_front.ensures.ok)
+          (subst (λ (ws : List (List (Place _))). AreDesks c.args.hub.now.name (map (λ (o : OwnerView _). o.deck) c.args.owners) (length c.take_last.new.self)
+          (record { lane = c.in-Some-pop.lane; owner = c.in-Some.owner; thieves = c.in_ok-thieves.thieves.items; events = []; waiting = ws; offers = [] } ∷ c.loop-owner.desks))
+          (sym c.new.ensures) next.0);
       total = omega arith;
     }
