@@ -82,13 +82,10 @@ impl Field {
         ensures sum { result ≡ (a + b) % self }
         ensures residue { result < self }
     {
-        // One comparison and one subtraction take less time than a division.
+        // The lesser of both is the residue: a negative difference wraps to a greater number. Written
+        // so, it has no branch, which would often be mispredicted.
         let sum = a + b;
-        if sum < self.prime {
-            sum
-        } else {
-            sum - self.prime
-        }
+        sum.min(sum.wrapping_sub(self.prime))
     }
 
     pub fn sub(self, a: u32, b: u32) -> u32
@@ -97,7 +94,9 @@ impl Field {
         ensures difference { result ≡ (a + (self - b)) % self }
         ensures residue { result < self }
     {
-        if b <= a { a - b } else { a + (self.prime - b) }
+        // As in a sum.
+        let difference = a.wrapping_sub(b);
+        difference.min(difference.wrapping_add(self.prime))
     }
 
     pub fn neg(self, a: u32) -> u32

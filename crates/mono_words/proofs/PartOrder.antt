@@ -7,6 +7,7 @@ use Rattle.std.proofs.lemmas.Bool.{eqb-true, eq-eqb, and_parts, and_from}
 use Rattle.std.proofs.lemmas.Bool.Decides.{same_from_decides}
 use Rattle.polynomials.specs.Monomials.{Monomial, monomial_order, same_monomial, greatest_variable, greatest_of}
 use Rattle.polynomials.specs.Equalities.{same_monomial_decides}
+use Rattle.polynomials.specs.MonomialOrders.{nat_cmp_same, nat_cmp-refl}
 use Rattle.mono_words.specs.Words.{exponents}
 use Rattle.mono_words.specs.FourWords.{four_words, AreWords, word_of}
 use Rattle.mono_words.proofs.Lanes.{length-exponents, same_word}
@@ -39,7 +40,7 @@ order_of_lowest a e l n small below =
     ∙ ap (ordering_then (monomial_order l n)) (order-exponents 4 a e small below)
 
 -- the order of four words, the fourth first
-pub order-four_words : (a b c d e f g h : ℕ) → AreWords a b c d → AreWords e f g h → monomial_order (four_words a b c d) (four_words e f g h) ≡ ordering_then (ordering_then (nat_cmp d h) (nat_cmp c g)) (ordering_then (nat_cmp b f) (nat_cmp a e))
+order-four_words : (a b c d e f g h : ℕ) → AreWords a b c d → AreWords e f g h → monomial_order (four_words a b c d) (four_words e f g h) ≡ ordering_then (nat_cmp d h) (ordering_then (nat_cmp c g) (ordering_then (nat_cmp b f) (nat_cmp a e)))
 unfolding four_words
 order-four_words a b c d e f g h small below =
     order_of_lowest a e _ _ small.first below.first
@@ -48,7 +49,46 @@ order-four_words a b c d e f g h small below =
     ∙ ap (λ o. ordering_then o (nat_cmp b f))
     (order_of_lowest c g _ _ small.third below.third
     ∙ ap (λ o. ordering_then o (nat_cmp c g)) (order-exponents 4 d h small.fourth below.fourth)))
-    ∙ sym (then_assoc (ordering_then (nat_cmp d h) (nat_cmp c g)) (nat_cmp b f) (nat_cmp a e))
+    ∙ (sym (then_assoc (ordering_then (nat_cmp d h) (nat_cmp c g)) (nat_cmp b f) (nat_cmp a e))
+    ∙ sym (then_assoc (nat_cmp d h) (nat_cmp c g) (ordering_then (nat_cmp b f) (nat_cmp a e))))
+
+-- numbers that differ decide
+then_other : (a e : ℕ) (o : Ordering) → (a ≡ e → ⊥) → ordering_then (nat_cmp a e) o ≡ nat_cmp a e
+then_other a e o other = go (nat_cmp a e) (λ tie. other (nat_cmp_same a e tie))
+  where
+    go : (q : Ordering) → (q ≡ Equal → ⊥) → ordering_then q o ≡ q
+    go Less some = refl
+    go Equal some = absurd (some refl)
+    go Greater some = refl
+
+-- equal ones leave it to what comes after
+then_same : (a e : ℕ) (o : Ordering) → a ≡ e → ordering_then (nat_cmp a e) o ≡ o
+then_same a e o same =
+    ap (λ x. ordering_then (nat_cmp a x) o) (sym same) ∙ ap (λ q. ordering_then q o) (nat_cmp-refl a)
+
+module _ (a b c d e f g h : ℕ) (small : AreWords a b c d) (below : AreWords e f g h) where
+  abbrev order : Ordering
+  order = monomial_order (four_words a b c d) (four_words e f g h)
+
+  pub by_fourth : (d ≡ h → ⊥) → nat_cmp d h ≡ order
+  by_fourth other = sym (order-four_words a b c d e f g h small below ∙ then_other d h _ other)
+
+  -- equal fourth words leave it to the others
+  past_fourth : d ≡ h → order ≡ ordering_then (nat_cmp c g) (ordering_then (nat_cmp b f) (nat_cmp a e))
+  past_fourth same = order-four_words a b c d e f g h small below ∙ then_same d h _ same
+
+  pub by_third : d ≡ h → (c ≡ g → ⊥) → nat_cmp c g ≡ order
+  by_third same other = sym (past_fourth same ∙ then_other c g _ other)
+
+  -- and equal third words to the first two
+  past_third : d ≡ h → c ≡ g → order ≡ ordering_then (nat_cmp b f) (nat_cmp a e)
+  past_third same third = past_fourth same ∙ then_same c g _ third
+
+  pub by_second : d ≡ h → c ≡ g → (b ≡ f → ⊥) → nat_cmp b f ≡ order
+  by_second same third other = sym (past_third same third ∙ then_other b f _ other)
+
+  pub by_first : d ≡ h → c ≡ g → b ≡ f → nat_cmp a e ≡ order
+  by_first same third second = sym (past_third same third ∙ then_same b f _ second)
 
 -- monomials that are equal have equal words
 words_same : (i a e : ℕ) (l m : Monomial) → l ≡ m → word_of i l ≡ exponents 4 a → word_of i m ≡ exponents 4 e → a < 65536 ^ 4 → e < 65536 ^ 4 → a ≡ e

@@ -259,12 +259,16 @@ impl Ord for Mono {
     ghost matches_eq = { same_monomial-ties };
 
     fn cmp(&self, other: &Mono) -> Ordering {
-        let lower = (self.second.bits.cmp(&other.second.bits)).then(
-            self.first.bits.cmp(&other.first.bits),
-        );
-        let upper = (self.fourth.bits.cmp(&other.fourth.bits)).then(
-            self.third.bits.cmp(&other.third.bits),
-        );
-        upper.then(lower)
+        // Words of variables that don't occur are equal, so that a branch on them is foreseen.
+        if self.fourth.bits != other.fourth.bits {
+            return self.fourth.bits.cmp(&other.fourth.bits);
+        }
+        if self.third.bits != other.third.bits {
+            return self.third.bits.cmp(&other.third.bits);
+        }
+        if self.second.bits != other.second.bits {
+            return self.second.bits.cmp(&other.second.bits);
+        }
+        self.first.bits.cmp(&other.first.bits)
     }
 }

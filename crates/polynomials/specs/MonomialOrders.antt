@@ -33,11 +33,11 @@ then_equal Equal q h = (refl, h)
 then_equal Greater q h = cc
 
 -- numbers that tie are the same
-nat_cmp_same : (d e : ℕ) → nat_cmp d e ≡ Equal → d ≡ e
+pub nat_cmp_same : (d e : ℕ) → nat_cmp d e ≡ Equal → d ≡ e
 nat_cmp_same d e h = grind (arith, nat_tests)
 
 -- a number compared with itself
-nat_cmp-refl : (d : ℕ) → nat_cmp d d ≡ Equal
+pub nat_cmp-refl : (d : ℕ) → nat_cmp d d ≡ Equal
 nat_cmp-refl d = grind (arith, nat_tests)
 
 -- adding a number keeps the order of numbers
