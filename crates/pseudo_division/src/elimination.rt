@@ -7,9 +7,10 @@ ghost use Rattle.pseudo_division.specs.Combinations.{IsCombinationWhere};
 ghost use Rattle.pseudo_division.specs.FieldOperations.{operations};
 
 use crate::leads::{lead, shifted_lead};
-use crate::products::{cross, cross_all, times, times_all};
+use crate::products::{cross_all, times, times_all};
 use crate::row::Row;
 use mono_words::VARS;
+use recursive_poly::cross_leads;
 use sparse_poly::{Poly, Work};
 use std::alloc::{AllocError, Global};
 
@@ -38,7 +39,7 @@ pub fn eliminate(
     let (a, b) = (&f.first, &g.first);
     let l = lead(&w, b, v)?;
     let m = shifted_lead(&w, a, b, v)?;
-    match cross(&w, &l, &m, a, b)? {
+    match cross_leads(&w, &l, &m, a, b, v)? {
         None => Ok(None),
         Some(first) => match cross_all(alloc, &w, &l, &m, &f.cofactors, &g.cofactors)? {
             None => Ok(None),

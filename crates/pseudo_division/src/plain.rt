@@ -9,8 +9,8 @@ ghost use Rattle.division_rules.specs.Within.{elimination_within, sparse_remaind
 ghost use Rattle.pseudo_division.specs.FieldOperations.{operations, first_of};
 
 use crate::leads::{lead, shifted_lead};
-use crate::products::cross;
 use mono_words::VARS;
+use recursive_poly::cross_leads;
 use sparse_poly::{Poly, Polys, Work};
 use std::alloc::AllocError;
 
@@ -197,5 +197,5 @@ fn eliminated(w: &Work, f: &Poly, g: &Poly, v: usize) -> Result<Option<Poly>, Al
     w.field.facts();
     let l = lead(w, g, v)?;
     let m = shifted_lead(w, f, g, v)?;
-    cross(w, &l, &m, f, g)
+    cross_leads(w, &l, &m, f, g, v)
 }

@@ -1,9 +1,10 @@
 ghost use Rattle.std.specs.Prelude.{◌≡◌, ◌<◌, ◌≤◌, length, IfOk, IfSome};
 ghost use Rattle.polynomials.specs.Polynomials.{IsPolynomial, ArePolynomials};
-ghost use Rattle.division_rules.specs.Within.{times_within, cross_within, cross_all_within, times_all_within};
+ghost use Rattle.division_rules.specs.Within.{times_within, cross_all_within, times_all_within};
 ghost use Rattle.pseudo_division.specs.FieldOperations.{operations};
 
 use mono_words::VARS;
+use recursive_poly::cross;
 use sparse_poly::{Poly, Polys, Work};
 use std::alloc::{AllocError, Global};
 
@@ -15,24 +16,6 @@ pub fn times(w: &Work, a: &Poly, b: &Poly) -> Result<Option<Poly>, AllocError>
     ensures over { IfOk result (λ r. IfSome r (IsPolynomial w.now.field VARS)) }
 {
     a.mul(*w, b)
-}
-
-/// The difference `l a - m b`, and `None` where one of its products doesn't fit the width.
-pub fn cross(w: &Work, l: &Poly, m: &Poly, a: &Poly, b: &Poly) -> Result<Option<Poly>, AllocError>
-    requires first { IsPolynomial w.now.field VARS l.now }
-    requires second { IsPolynomial w.now.field VARS m.now }
-    requires left { IsPolynomial w.now.field VARS a.now }
-    requires right { IsPolynomial w.now.field VARS b.now }
-    ensures value { IfOk result (λ r. r ≡ cross_within (operations w.now.field) w.now.width l.now m.now a.now b.now) }
-    ensures over { IfOk result (λ r. IfSome r (IsPolynomial w.now.field VARS)) }
-{
-    match times(w, l, a)? {
-        None => Ok(None),
-        Some(left) => match times(w, m, b)? {
-            None => Ok(None),
-            Some(right) => Ok(Some(left.sub(w.field, &right)?)),
-        },
-    }
 }
 
 /// The differences `l a - m b` of each pair of entries, and `None` where a product doesn't fit.

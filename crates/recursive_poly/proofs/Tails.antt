@@ -16,8 +16,8 @@ use Rattle.polynomials.proofs.PolynomialRing.{CanonicalPolynomial, polynomial_ri
 use Rattle.sparse_poly.proofs.Products.{product_of-term}
 use Rattle.division_rules.specs.Operations.{Operations, shifted_lead}
 use Rattle.division_rules.specs.Lists.{list_operations}
-use Rattle.division_rules.specs.Rows.{plain, cross}
-use Rattle.division_rules.specs.Within.{and_then, row_within, elimination_within}
+use Rattle.division_rules.specs.Rows.{cross}
+use Rattle.division_rules.specs.Within.{and_then, cross_within}
 
 -- powers of one variable multiply by adding their exponents
 power_monomial-product : (n v a b : ℕ) → monomial_product (power_monomial n v a) (power_monomial n v b) ≡ power_monomial n v (a + b)
@@ -80,12 +80,13 @@ module _ (p n v : ℕ) (f g : Polynomial) (prime : IsPrime p) (below : v < n) (i
       (tails_left (polynomial_ring p n prime.many) (l, of_g.lead) (lead_in v f, of_f.lead) (variable_power n v (degree_in v f - degree_in v g), IsPolynomial-variable_power p n v (degree_in v f - degree_in v g) prime.many) (variable_power n v (degree_in v g), IsPolynomial-variable_power p n v (degree_in v g) prime.many) (tail_in v f, of_f.tail) (tail_in v g, of_g.tail))
 
   -- so it is the difference of the products by the tails, where those by the whole fit
-  pub eliminated_within : (w : ℕ) (a b h : Polynomial) → a ≡ l → b ≡ m → fits w a f ≡ true → fits w b g ≡ true → h ≡ difference_of p (product_of p a (tail_in v f)) (product_of p b (tail_in v g)) → Some (plain h) ≡ elimination_within o w v (plain f) (plain g)
-  eliminated_within w a b h a_is b_is first second is =
-      ap (λ z. Some (plain z)) (is ∙ (ap₂ (λ x y. difference_of p (product_of p x (tail_in v f)) (product_of p y (tail_in v g))) a_is b_is ∙ sym elimination_by_tails))
-      ∙ go (fits w l f) (fits w m g) (ap (λ z. fits w z f) (sym a_is) ∙ first) (ap (λ z. fits w z g) (sym b_is) ∙ second)
+  pub crossed_within : (w : ℕ) (a b h : Polynomial) → a ≡ l → b ≡ m → fits w a f ≡ true → fits w b g ≡ true → h ≡ difference_of p (product_of p a (tail_in v f)) (product_of p b (tail_in v g)) → Some h ≡ cross_within o w a b f g
+  crossed_within w a b h a_is b_is first second is =
+      ap Some (is ∙ (ap₂ (λ x y. difference_of p (product_of p x (tail_in v f)) (product_of p y (tail_in v g))) a_is b_is
+      ∙ (sym elimination_by_tails ∙ ap₂ (λ x y. cross o x y f g) (sym a_is) (sym b_is))))
+      ∙ go (fits w a f) (fits w b g) first second
     where
-      go : (c d : Bool) → c ≡ true → d ≡ true → Some (plain (cross o l m f g)) ≡ row_within o w (and_then (elim c as (λ _. Option Polynomial) [ true ↦ Some (product_of p l f) | false ↦ None ]) (λ x. and_then (elim d as (λ _. Option Polynomial) [ true ↦ Some (product_of p m g) | false ↦ None ]) (λ y. Some (difference_of p x y)))) (Some [])
+      go : (c d : Bool) → c ≡ true → d ≡ true → Some (cross o a b f g) ≡ and_then (elim c as (λ _. Option Polynomial) [ true ↦ Some (product_of p a f) | false ↦ None ]) (λ x. and_then (elim d as (λ _. Option Polynomial) [ true ↦ Some (product_of p b g) | false ↦ None ]) (λ y. Some (difference_of p x y)))
       go true true first second = refl
       go true false first second = cc
       go false d first second = cc

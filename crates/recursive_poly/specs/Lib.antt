@@ -1,3 +1,2 @@
 pub mod Recursive
 pub mod Laws
-pub mod Tails

@@ -1,10 +1,9 @@
-ghost use Rattle.std.specs.Prelude.{◌≡◌, ◌<◌, ◌≤◌, ◌^◌, ℕ, IfOk, IfSome};
+ghost use Rattle.std.specs.Prelude.{◌≡◌, ◌<◌, ◌≤◌, ◌^◌, ℕ, IfOk};
 ghost use Rattle.polynomials.specs.Polynomials.{IsPolynomial};
-ghost use Rattle.polynomials.specs.Views.{degree_in, lead_in, tail_in};
+ghost use Rattle.polynomials.specs.Views.{degree_in, lead_in};
 ghost use Rattle.recursive_poly.specs.Recursive.{recursive_in, whole};
 
-use crate::lead_end::{is_free_above, lead_end};
-use mono_words::{Mono, VARS};
+use mono_words::VARS;
 use sparse_poly::Poly;
 use std::alloc::AllocError;
 use std::marker::Model;
@@ -99,26 +98,5 @@ impl RecPoly {
             → IfOk result (IsPolynomial p VARS) }
     {
         self.as_poly().lead_in(self.variable())
-    }
-
-    /// The terms with a smaller power.
-    pub(crate) fn tail(&self) -> Result<Poly, AllocError>
-        ensures tail { IfOk result (λ r. r ≡ tail_in self.now.variable (whole self.now)) }
-        ensures over { (p : ℕ) → IsPolynomial p VARS (whole self.now)
-            → IfOk result (IsPolynomial p VARS) }
-    {
-        self.as_poly().tail_in(self.variable())
-    }
-
-    /// The same terms as a part of the vector, where no variable greater than this one occurs.
-    pub(crate) fn tail_terms(&self) -> Option<&[(Mono, u32)]>
-        ensures { IfSome result (λ r. r.now ≡ tail_in self.now.variable (whole self.now)) }
-    {
-        let (f, v) = (self.as_poly(), self.variable());
-        if !is_free_above(f, v) {
-            return None;
-        }
-        let end = lead_end(f, v);
-        Some(&f.terms()[end..])
     }
 }

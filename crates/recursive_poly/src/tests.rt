@@ -60,7 +60,7 @@ fn eliminates(
     if !may_eliminate(&f, &g) {
         return Ok(false);
     }
-    match (eliminate_rec(alloc, Work { field, width }, &f, &g)?, due) {
+    match (eliminate_rec(Work { field, width }, &f, &g)?, due) {
         (None, None) => Ok(true),
         (Some(h), Some(due)) => Ok(h.poly()? == poly(alloc, field, due)?),
         _ => Ok(false),

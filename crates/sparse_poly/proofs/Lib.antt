@@ -19,4 +19,8 @@ pub mod BoxTurns
 pub mod BoxRows
 pub mod BoxSums
 mod Copies
-pub mod RowItems
+pub mod MultipleTurns
+pub mod LeadEnds
+pub mod TailFits
+pub mod OnePass
+pub mod TailBounds

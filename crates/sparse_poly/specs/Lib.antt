@@ -3,3 +3,4 @@ pub mod Pairs
 pub mod Falling
 pub mod Values
 pub mod Boxes
+pub mod Tails

@@ -4,10 +4,11 @@ ghost use Rattle.polynomials.specs.Views.{degree_in};
 ghost use Rattle.polynomials.specs.Fits.{most_exponent, fits};
 ghost use Rattle.sparse_poly.specs.Values.{HasValueOfSum, HasValueOfDifference, HasValueOfProduct, HasZerosOf};
 
-use crate::fits::fits;
+use crate::fitting::fits;
 use crate::merge::{Sign, merged};
+use crate::multiples::{scaled, term_times};
 use crate::poly::Poly;
-use crate::product::{product, scaled, term_times};
+use crate::product::product;
 use crate::work::Work;
 use field_table::Field;
 use mono_words::{Mono, VARS};

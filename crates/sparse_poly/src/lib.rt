@@ -4,16 +4,20 @@
 mod arithmetic;
 mod boxes;
 mod collect;
-mod fits;
+mod fitting;
 mod merge;
+mod multiples;
 mod poly;
 mod product;
 mod system;
+mod tails;
 mod views;
 mod work;
 
+pub use fitting::fits;
 pub use poly::Poly;
 pub use system::{Names, Polys, System, copied};
+pub use tails::difference_of_tails;
 pub use work::Work;
 
 #[cfg(test)]

@@ -6,7 +6,7 @@ ghost use Rattle.polynomials.specs.Polynomials.{Term, IsPolynomial, collected, c
 ghost use Rattle.polynomials.specs.Views.{degree_in};
 
 use crate::collect::collected;
-use crate::fits::degrees;
+use crate::fitting::degrees;
 use field_table::Field;
 use mono_words::{Mono, VARS};
 use std::alloc::{AllocError, Global};

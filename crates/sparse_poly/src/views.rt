@@ -1,10 +1,11 @@
 ghost use Rattle.std.specs.Prelude.{◌≡◌, ◌<◌, ◌≤◌, ◌↔◌, ℕ, true, [], length, drop, IfOk, IsTrue};
+ghost use Rattle.polynomials.specs.Monomials.{exponent_of};
 ghost use Rattle.polynomials.specs.Polynomials.{IsPolynomial};
 ghost use Rattle.polynomials.specs.Views.{degree_in, coefficient_in, lead_in, tail_in, main_var, is_constant, IsFreeOf};
 ghost use Rattle.sparse_poly.specs.Values.{SplitsValue};
 
 use crate::poly::Poly;
-use mono_words::VARS;
+use mono_words::{Mono, VARS};
 use std::alloc::AllocError;
 
 impl Poly {
@@ -68,7 +69,7 @@ impl Poly {
     }
 
     /// Whether no variable greater than `v` occurs.
-    fn is_free_above(&self, v: usize) -> bool
+    pub fn is_free_above(&self, v: usize) -> bool
         ensures { IsTrue result ↔ ((w : ℕ) → v < w → IsFreeOf w self.now) }
     {
         match self.main_var() {
@@ -93,5 +94,38 @@ impl Poly {
             Some(end) => end,
             None => terms.len(),
         }
+    }
+
+    /// The tail in `v` as it stands, where no greater variable occurs.
+    pub(crate) fn tail_terms(&self, v: usize) -> &[(Mono, u32)]
+        requires variable { v < VARS }
+        requires greatest { (w : ℕ) → v < w → IsFreeOf w self.now }
+        ensures { result.now ≡ tail_in v self.now }
+    {
+        &self.terms()[self.tail_start(v)..]
+    }
+
+    /// The place where the lead in `v` ends and the tail begins.
+    fn tail_start(&self, v: usize) -> usize
+        requires variable { v < VARS }
+        requires greatest { (w : ℕ) → v < w → IsFreeOf w self.now }
+        ensures within { result ≤ length self.now }
+        ensures tail { drop result self.now ≡ tail_in v self.now }
+    {
+        let (terms, degree) = (self.terms(), self.degree_in(v));
+        match terms.iter().position(|t| t.0.exponent(v) != degree) {
+            Some(end) => end,
+            None => terms.len(),
+        }
+    }
+
+    /// A monomial with at least the degrees of the tail in `v`, where that has terms.
+    pub(crate) fn tail_degrees(&self, v: usize) -> Mono
+        requires { v < VARS }
+        ensures { (w : ℕ) → degree_in w (tail_in v self.now) ≤ exponent_of w result }
+    {
+        let degrees = self.degrees();
+        let below = degrees.exponent(v).saturating_sub(1);
+        degrees.without(v).max_exponents(Mono::power(v, below))
     }
 }

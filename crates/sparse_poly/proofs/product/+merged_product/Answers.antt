@@ -5,7 +5,7 @@ use Rattle.polynomials.specs.Polynomials.{Term, IsPolynomial, product_of, sum_of
 use Rattle.polynomials.proofs.Canonical.{IsPolynomial-product_of}
 use Rattle.sparse_poly.specs.Pairs.{PairsFit}
 use Rattle.sparse_poly.proofs.Moduli.{positive_modulus}
-use Rattle.sparse_poly.proofs.RowItems.{two_items}
+use Rattle.sparse_poly.proofs.MultipleTurns.{two_items}
 use Rattle.sparse_poly.proofs.Products.{IsPolynomial-append_left, IsPolynomial-append_right, product_of-append}
 use Rattle.sparse_poly.proofs.FittingPairs.{PairsFit-append_left, PairsFit-append_right}
 use Rattle.sparse_poly.proofs.SortedTerms.{IfOk-implied}
@@ -53,14 +53,8 @@ returns-clause-value t c =
 pub returns-then-short-eq2-clause-value : goal.returns-then-short-eq2-clause-value
 returns-then-short-eq2-clause-value t c =
     let same = two_items c.args.short.now c.index-short-0-then-short-eq2.result c.index-short-1.result c.if-short-eq2.true c.index-short-0-then-short-eq2.is c.index-short-1.is in
-    IfOk-implied _ _ c.two_terms_times.result
+    IfOk-implied _ _ c.sum_of_multiples.result
     (λ r e. e
     ∙ (sym (product_of-append c.args.f VARS c.facts.ensures.prime (c.index-short-0-then-short-eq2.result ∷ []) (c.index-short-1.result ∷ []) c.args.long.now (subst (IsPolynomial c.args.f VARS) same c.requires.left) c.requires.right)
     ∙ ap (λ (l : List Term). product_of c.args.f l c.args.long.now) (sym same)))
-    c.two_terms_times.ensures
-
-pub returns-then-short-eq2-clause-over : goal.returns-then-short-eq2-clause-over
-returns-then-short-eq2-clause-over t c =
-    IfOk-implied _ _ c.two_terms_times.result
-    (λ r e. subst (IsPolynomial c.args.f VARS) (sym e) (IsPolynomial-product_of c.args.f VARS (positive_modulus c.facts.ensures.least) c.args.short.now c.args.long.now c.requires.left c.requires.right))
-    (returns-then-short-eq2-clause-value t c)
+    c.sum_of_multiples.ensures.value
