@@ -6,3 +6,4 @@ mod Largest
 mod Parts
 mod PartOrder
 mod PartPlaces
+mod ZeroWords

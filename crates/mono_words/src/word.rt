@@ -57,6 +57,10 @@ impl Word {
     pub fn divides(self, other: Word) -> bool
         ensures { IsTrue result ↔ MonomialDivides (exponents 4 self.bits) (exponents 4 other.bits) }
     {
+        // As in variables that don't occur.
+        if self.bits == 0 {
+            return true;
+        }
         self.bits <= other.bits && adds_without_carry(self.bits, other.bits - self.bits, other.bits)
     }
 
@@ -85,6 +89,10 @@ impl Word {
         ensures { exponents 4 result.bits
             ≡ greater_exponents (exponents 4 self.bits) (exponents 4 other.bits) }
     {
+        // As in variables that don't occur.
+        if other.bits == 0 {
+            return self;
+        }
         let mut bits: u64 = 0;
         for v in (0..4).rev() {
             let greater = self.exponent(v).max(other.exponent(v));
