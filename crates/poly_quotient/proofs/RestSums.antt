@@ -1,5 +1,5 @@
 -- The sum of terms and of products, where items are taken out, joined and added.
-use Rattle.std.proofs.Common.{◌≡◌, ◌≢◌, ℕ, suc, ◌+◌, ◌%◌, ◌<◌, length, List, [], ◌∷◌, ◌++◌, All, IsPermutation, sym, ap, ◌∙◌, append_assoc, arith}
+use Rattle.std.proofs.Common.{◌≡◌, ◌≢◌, ℕ, suc, ◌+◌, ◌%◌, ◌<◌, length, List, [], ◌∷◌, ◌++◌, All, IsPermutation, ap, ◌∙◌, arith}
 use Rattle.polynomials.specs.Monomials.{Monomial}
 use Rattle.polynomials.specs.Polynomials.{Term, term, Polynomial, IsPolynomial, collected, sum_of}
 use Rattle.polynomials.proofs.Monomialwise.{EachMonomial, EachMonomial-append, HaveLength}
@@ -71,12 +71,3 @@ module _ (p n : ℕ) (positive : 0 < p) where
       (SameSums-trans p (collected p new) new (collected p old ++ q) (SameSums-collected p new)
       (SameSums-trans p new (old ++ q) (collected p old ++ q) e
       (SameSums-append p old q (collected p old) q (SameSums-sym p (collected p old) old (SameSums-collected p old)) (SameSums-refl p q))))
-
-  -- beside other terms too
-  pub added_beside_terms : (terms old new : List Term) (q : Polynomial) → HaveLength n terms → HaveLength n old → HaveLength n new → IsPolynomial p n q → collected p new ≡ sum_of p (collected p old) q → collected p (terms ++ new) ≡ sum_of p (collected p (terms ++ old)) q
-  added_beside_terms terms old new q j l k iq e =
-      added_items (terms ++ old) (terms ++ new) q (EachMonomial-append (λ m. length m ≡ n) terms old j l) (EachMonomial-append (λ m. length m ≡ n) terms new j k) iq
-      (SameSums-trans p (terms ++ new) (terms ++ (old ++ q)) ((terms ++ old) ++ q)
-      (SameSums-append p terms new terms (old ++ q) (SameSums-refl p terms)
-      (SameSums-trans p new (collected p old ++ q) (old ++ q) (sums_from_collected new (collected p old ++ q) e) (SameSums-append p (collected p old) q old q (SameSums-collected p old) (SameSums-refl p q))))
-      (SameSums-from_path p (terms ++ (old ++ q)) ((terms ++ old) ++ q) (sym (append_assoc terms old q))))

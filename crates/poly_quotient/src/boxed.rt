@@ -15,15 +15,6 @@ const FEWEST_TERMS: usize = 32;
 /// The most places of a box.
 const MOST_PLACES: usize = 1 << 22;
 
-/// A place of a box: what is left of the coefficient there, and where its monomial comes from: a
-/// term of the dividend, or the product of a term of the quotient and one of the divisor.
-#[derive(Clone, Copy, Debug)]
-struct Slot {
-    sum: u64,
-    left: u32,
-    right: Option<u32>,
-}
-
 /// A division on the way: the terms of the quotient that a division in a box finds, and what their
 /// product with `b` leaves of `a`. Where that is 0, they are the quotient.
 pub fn begun(
@@ -145,92 +136,72 @@ fn place(sides: &[usize], m: Mono) -> usize {
     place
 }
 
-/// The place of each monomial, with its coefficient and its number.
+/// The monomial of the place `k` of the box.
+fn monomial_at(sides: &[usize], k: usize) -> Option<Mono> {
+    let mut monomial = Mono::one();
+    let mut rest = k;
+    for v in 0..sides.len().min(VARS) {
+        let side = sides[v];
+        if side == 0 {
+            return None;
+        }
+        let Ok(exponent) = u16::try_from(rest % side) else {
+            return None;
+        };
+        let power = Mono::power(v, exponent);
+        if !monomial.fits(power) {
+            return None;
+        }
+        monomial = monomial.product(power);
+        rest /= side;
+    }
+    Some(monomial)
+}
+
+/// The place of each monomial, with its coefficient.
 fn places_of(
     alloc: Global,
     sides: &[usize],
     terms: &[(Mono, u32)],
-) -> Result<Vec<(usize, u32, u32)>, AllocError> {
+) -> Result<Vec<(usize, u32)>, AllocError> {
     let mut places = Vec::with_capacity(alloc, terms.len())?;
-    let mut j: u32 = 0;
     for t in terms {
-        places.push((place(sides, t.0), t.1, j))?;
-        j = j.wrapping_add(1);
+        places.push((place(sides, t.0), t.1))?;
     }
     Ok(places)
 }
 
-/// Each term of `a` in its slot.
-fn fill(slots: &mut [Slot], sides: &[usize], a: &[(Mono, u32)]) {
-    let mut i: u32 = 0;
-    for t in a {
-        let k = place(sides, t.0);
-        if k < slots.len() {
-            slots[k] = Slot {
-                sum: t.1 as u64,
-                left: i,
-                right: None,
-            };
-        }
-        i = i.wrapping_add(1);
-    }
-}
-
-/// Adds the coefficient `c` times each term to the slots, as far beyond `start` as its place is.
-fn add_row(slots: &mut [Slot], start: usize, c: u32, i: u32, places: &[(usize, u32, u32)]) {
-    for u in places {
-        let k = start.wrapping_add(u.0);
-        if k < slots.len() {
-            let old = slots[k];
-            slots[k] = Slot {
-                sum: old.sum.wrapping_add(c as u64 * u.1 as u64),
-                left: i,
-                right: Some(u.2),
-            };
+/// The coefficient of each term at its place.
+fn fill(sums: &mut [u64], sides: &[usize], terms: &[(Mono, u32)]) {
+    for t in terms {
+        if let Some(sum) = sums.get_mut(place(sides, t.0)) {
+            *sum = t.1 as u64;
         }
     }
 }
 
-/// The monomial of a slot.
-fn monomial_of(
-    slot: Slot,
-    a: &[(Mono, u32)],
-    quotient: &[(Mono, u32)],
-    b: &[(Mono, u32)],
-) -> Option<Mono> {
-    match slot.right {
-        None => match a.get(slot.left as usize) {
-            None => None,
-            Some(t) => Some(t.0),
-        },
-        Some(j) => match (quotient.get(slot.left as usize), b.get(j as usize)) {
-            (Some(t), Some(u)) if t.0.fits(u.0) => Some(t.0.product(u.0)),
-            _ => None,
-        },
-    }
-}
-
-/// The monomial of a slot by the first of `b`, where the quotient can have it.
-fn quotient_of(
-    slot: Slot,
-    a: &[(Mono, u32)],
-    quotient: &[(Mono, u32)],
-    b: &[(Mono, u32)],
-    room: Mono,
-) -> Option<Mono> {
-    let Some(monomial) = monomial_of(slot, a, quotient, b) else {
-        return None;
+/// Adds `c` times each coefficient to the sum as far beyond `start` as its place is.
+fn add_row(sums: &mut [u64], start: usize, c: u32, places: &[(usize, u32)]) {
+    let Some(row) = sums.get_mut(start..) else {
+        return;
     };
-    match b.first() {
-        Some(lead) if lead.0.divides(monomial) => {
-            let over = monomial.quotient(lead.0);
-            if over.divides(room) { Some(over) } else { None }
+    for u in places {
+        if let Some(sum) = row.get_mut(u.0) {
+            *sum = sum.wrapping_add(c as u64 * u.1 as u64);
         }
-        _ => None,
     }
 }
 
-/// The division from the last slot down, up to the first term that the quotient can't have.
+/// `monomial` by `lead`, where the quotient can have it.
+fn quotient_of(monomial: Mono, lead: Mono, room: Mono) -> Option<Mono> {
+    if !lead.divides(monomial) {
+        return None;
+    }
+    let over = monomial.quotient(lead);
+    if over.divides(room) { Some(over) } else { None }
+}
+
+/// The division from the last place down, up to the first term that the quotient can't have.
 fn divided_in_box(
     alloc: Global,
     w: Work,
@@ -249,29 +220,25 @@ fn divided_in_box(
         return Ok(quotient);
     };
     let inverse = f.inv(lead.1);
-    let nothing = Slot {
-        sum: 0,
-        left: 0,
-        right: None,
-    };
     let places = places_of(alloc, sides, b.terms())?;
-    let mut slots = vec![in alloc; nothing; size]?;
-    fill(&mut slots, sides, a.terms());
-    let mut i: u32 = 0;
+    let mut sums = vec![in alloc; 0_u64; size]?;
+    fill(&mut sums, sides, a.terms());
     for k in (0..size).rev() {
-        if k >= slots.len() {
+        if k >= sums.len() {
             return Ok(quotient);
         }
-        let slot = slots[k];
-        let c = f.residue(slot.sum);
+        let c = f.residue(sums[k]);
         if c != 0 {
-            let Some(monomial) = quotient_of(slot, a.terms(), &quotient, b.terms(), room) else {
+            // Only here is a monomial needed, so that it is found back from its place.
+            let Some(monomial) = monomial_at(sides, k) else {
                 return Ok(quotient);
             };
-            let t = (monomial, f.mul(c, inverse));
-            add_row(&mut slots, place(sides, t.0), f.neg(t.1), i, &places);
+            let Some(over) = quotient_of(monomial, lead.0, room) else {
+                return Ok(quotient);
+            };
+            let t = (over, f.mul(c, inverse));
+            add_row(&mut sums, place(sides, over), f.neg(t.1), &places);
             quotient.push(t)?;
-            i = i.wrapping_add(1);
         }
     }
     Ok(quotient)
