@@ -1,5 +1,5 @@
 -- The word 0, of variables that don't occur.
-use Rattle.std.proofs.Common.{◌≡◌, ◌≤◌, ◌∙◌, ℕ, zero, suc, max, List, [], ◌∷◌, length, replicate, refl, sym, ap, ap₂, subst, arith}
+use Rattle.std.proofs.Common.{◌≡◌, ◌∙◌, ℕ, zero, suc, max, [], ◌∷◌, length, replicate, refl, sym, ap, ap₂, arith}
 use Rattle.polynomials.specs.Monomials.{Monomial, exponent_of, MonomialDivides}
 use Rattle.polynomials.specs.Fits.{greater_exponents}
 use Rattle.polynomials.proofs.Exponents.{exponent_of-replicate}

@@ -1,5 +1,5 @@
 -- Bounds of the degrees of a tail: in the variable one less, in the others those of the polynomial.
-use Rattle.std.proofs.Common.{◌≡◌, ◌<◌, ◌≤◌, ◌-◌, ◌∙◌, ℕ, max, set, subst, sym, ap, inl, inr, arith}
+use Rattle.std.proofs.Common.{◌≡◌, ◌<◌, ◌≤◌, ◌-◌, ◌∙◌, ℕ, set, subst, sym, ap, inl, inr, arith}
 use Rattle.std.proofs.lemmas.Bool.{cases_eq, cases_lt}
 use Rattle.polynomials.specs.Monomials.{Monomial, exponent_of}
 use Rattle.polynomials.specs.Polynomials.{Polynomial}

@@ -1,5 +1,5 @@
 -- A further term makes the exponents the greater of both: itself where it has no greater one.
-use Rattle.std.proofs.Common.{◌≡◌, ◌∙◌, ℕ, max, arith, ap, sym}
+use Rattle.std.proofs.Common.{◌≡◌, ◌∙◌, ℕ, max, arith, ap}
 use Rattle.polynomials.specs.Monomials.{exponent_of}
 use Rattle.polynomials.specs.Views.{degree_in}
 use Rattle.polynomials.proofs.FitsLemmas.{exponent_of-greater}

@@ -1,5 +1,5 @@
 -- Degrees that fit, in each variable.
-use Rattle.std.proofs.Common.{◌≡◌, ◌≢◌, ◌+◌, ◌≤◌, ◌<◌, ℕ, List, [], ◌∷◌, length, refl, sym, ap₂, subst, arith}
+use Rattle.std.proofs.Common.{◌≢◌, ◌+◌, ◌≤◌, ◌<◌, List, [], ◌∷◌, length, refl, sym, ap₂, subst, arith}
 use Rattle.polynomials.specs.Polynomials.{Term}
 use Rattle.sparse_poly.proofs.FittingPairs.{fits-from_degrees}
 use Rattle.sparse_poly.proofs.fitting.fits.Goals as goal

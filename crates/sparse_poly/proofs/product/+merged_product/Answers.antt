@@ -2,9 +2,7 @@
 use Rattle.std.proofs.Common.{◌≡◌, ◌≢◌, ◌⊎◌, ◌<◌, ◌+◌, ◌/◌, ◌==◌, Bool, false, [], ◌∷◌, length, inl, inr, ℕ, List, sym, subst, ap, ap₂, ◌∙◌, arith}
 use Rattle.mono_words.specs.declared.mono.TheConstants.{VARS}
 use Rattle.polynomials.specs.Polynomials.{Term, IsPolynomial, product_of, sum_of}
-use Rattle.polynomials.proofs.Canonical.{IsPolynomial-product_of}
 use Rattle.sparse_poly.specs.Pairs.{PairsFit}
-use Rattle.sparse_poly.proofs.Moduli.{positive_modulus}
 use Rattle.sparse_poly.proofs.MultipleTurns.{two_items}
 use Rattle.sparse_poly.proofs.Products.{IsPolynomial-append_left, IsPolynomial-append_right, product_of-append}
 use Rattle.sparse_poly.proofs.FittingPairs.{PairsFit-append_left, PairsFit-append_right}

@@ -1,12 +1,11 @@
 -- The product by the tail fits where that by the whole does.
-use Rattle.std.proofs.Common.{◌≡◌, ◌∙◌, true, length, ap₂, sym, subst, arith}
+use Rattle.std.proofs.Common.{◌∙◌, ap₂, sym, subst, arith}
 use Rattle.mono_words.specs.declared.mono.TheConstants.{VARS}
 use Rattle.polynomials.specs.Polynomials.{IsPolynomial, product_of}
 use Rattle.polynomials.specs.Views.{degree_in, tail_in}
 use Rattle.polynomials.proofs.Coefficients.{IsPolynomial-without_power}
 use Rattle.polynomials.proofs.FitsLemmas.{fits_comm}
 use Rattle.polynomials.proofs.PolynomialLaws.{product_of_comm}
-use Rattle.sparse_poly.specs.Pairs.{PairsFit}
 use Rattle.sparse_poly.proofs.Moduli.{positive_modulus}
 use Rattle.sparse_poly.proofs.SortedTerms.{IfOk-implied}
 use Rattle.sparse_poly.proofs.FittingPairs.{PairsFit-from_fits, fitting_pairs_are_few}

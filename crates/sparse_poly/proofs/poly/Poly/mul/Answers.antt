@@ -1,5 +1,5 @@
 -- What fits is multiplied, the shorter factor giving the parts.
-use Rattle.std.proofs.Common.{◌≡◌, ◌≢◌, ◌+◌, ◌*◌, ◌≤◌, ◌∙◌, ℕ, [], ap, ap₂, sym, refl, subst, length, arith}
+use Rattle.std.proofs.Common.{◌≡◌, ◌≢◌, ◌+◌, ◌≤◌, ◌∙◌, [], ap, ap₂, sym, refl, subst, length, arith}
 use Rattle.std.proofs.Math.Nat.{mul_comm}
 use Rattle.mono_words.specs.declared.mono.TheConstants.{VARS}
 use Rattle.polynomials.specs.Polynomials.{product_of}

@@ -1,5 +1,5 @@
 -- In the variable the degree of the tail is less, and in no other it is greater.
-use Rattle.std.proofs.Common.{◌≡◌, ◌≤◌, ◌-◌, ◌∙◌, ℕ, ap, ap₂, sym, subst}
+use Rattle.std.proofs.Common.{◌≤◌, ◌-◌, ◌∙◌, ap, ap₂, sym, subst}
 use Rattle.mono_words.specs.declared.mono.TheConstants.{VARS}
 use Rattle.polynomials.specs.Monomials.{exponent_of}
 use Rattle.polynomials.specs.Views.{degree_in, tail_in}
