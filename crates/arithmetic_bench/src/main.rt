@@ -10,16 +10,8 @@ mod trial;
 use operations::last_result;
 use outcome::line_of;
 use std::{env, io};
+use tri_io::words_behind_name;
 use trial::{Trial, short_trials, trial_of};
-
-/// The words of the command line without the program's name.
-fn words_of(rt: &HostRuntime) -> io::Result<Vec<String>> {
-    let mut words = Vec::new(rt.alloc());
-    for word in env::args(rt)?.skip(1) {
-        words.push(word)?;
-    }
-    Ok(words)
-}
 
 /// Makes what the trial says, and writes it.
 fn report(rt: &HostRuntime, trial: Trial) -> io::Result<()> {
@@ -28,7 +20,7 @@ fn report(rt: &HostRuntime, trial: Trial) -> io::Result<()> {
 }
 
 fn main(rt: HostRuntime) -> io::Result<()> {
-    let words = words_of(&rt)?;
+    let words = words_behind_name(rt.alloc(), env::args(&rt)?)?;
     if let Some(trial) = trial_of(&words) {
         return report(&rt, trial);
     }

@@ -8,19 +8,11 @@ mod walk;
 use order::Order;
 use std::alloc::{AllocError, Global};
 use std::{env, io};
+use tri_io::words_behind_name;
 use walk::{Tally, tally_of};
 
 /// How many levels of splits a tree has where no word says it.
 const LEVELS: u32 = 9;
-
-/// The words of the command line without the program's name: an order, and a number of levels.
-fn words_of(rt: &HostRuntime) -> io::Result<Vec<String>> {
-    let mut words = Vec::new(rt.alloc());
-    for word in env::args(rt)?.skip(1) {
-        words.push(word)?;
-    }
-    Ok(words)
-}
 
 fn levels_of(words: &[String]) -> u32 {
     let Some(word) = words.get(1) else {
@@ -42,7 +34,8 @@ fn line_of(alloc: Global, order: Order, tally: &Tally) -> Result<String, AllocEr
 }
 
 fn main(rt: HostRuntime) -> io::Result<()> {
-    let words = words_of(&rt)?;
+    // An order, and a number of levels.
+    let words = words_behind_name(rt.alloc(), env::args(&rt)?)?;
     let levels = levels_of(&words);
     for order in [Order::Neither, Order::Forward, Order::Reverse] {
         if let Some(word) = words.first() {

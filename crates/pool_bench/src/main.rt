@@ -9,22 +9,13 @@ mod walk;
 use run::{Tally, tally_of};
 use std::alloc::{AllocError, Global};
 use std::{env, io};
+use tri_io::words_behind_name;
 
 /// The greatest number of which a tree is walked where no word says it.
 const MOST: u32 = 2_000;
 
 /// How many trees are walked where no word says it.
 const TREES: u32 = 8;
-
-/// The words of the command line without the program's name: the greatest number, and how many
-/// trees.
-fn words_of(rt: &HostRuntime) -> io::Result<Vec<String>> {
-    let mut words = Vec::new(rt.alloc());
-    for word in env::args(rt)?.skip(1) {
-        words.push(word)?;
-    }
-    Ok(words)
-}
 
 fn number_at(words: &[String], place: usize, otherwise: u32) -> u32 {
     let Some(word) = words.get(place) else {
@@ -49,7 +40,8 @@ fn line_of(alloc: Global, tally: &Tally) -> Result<String, AllocError> {
 }
 
 fn main(rt: HostRuntime) -> io::Result<()> {
-    let words = words_of(&rt)?;
+    // The greatest number, and how many trees.
+    let words = words_behind_name(rt.alloc(), env::args(&rt)?)?;
     let most = number_at(&words, 0, MOST);
     let trees = number_at(&words, 1, TREES);
     let tally = tally_of(rt, rt.alloc(), most, trees)?;

@@ -13,6 +13,7 @@ mod sink;
 mod source;
 mod std_sink;
 mod std_source;
+mod words;
 
 pub use command::{Command, command_of, commands_are_known};
 pub use failed::Failed;
@@ -26,6 +27,7 @@ pub use sink::Sink;
 pub use source::Source;
 pub use std_sink::StdSink;
 pub use std_source::StdSource;
+pub use words::words_behind_name;
 
 #[cfg(test)]
 mod tests;

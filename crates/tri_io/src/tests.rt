@@ -278,3 +278,22 @@ fn ends_in_memory_may_cross_threads(rt: HostRuntime) -> Result<(), Fail> {
     crosses_threads(Failed);
     Ok(())
 }
+
+fn texts(alloc: Global, words: &[&str]) -> Result<Vec<String>, AllocError> {
+    let mut texts = Vec::new(alloc);
+    for word in words {
+        texts.push(String::from_str(alloc, word)?)?;
+    }
+    Ok(texts)
+}
+
+#[test]
+fn the_words_of_a_command_line_stand_behind_its_name(rt: HostRuntime) -> Result<(), Fail> {
+    let alloc = rt.alloc();
+    let args = texts(alloc, &["program", "first", "second"])?;
+    let words = words_behind_name(alloc, args.into_iter())?;
+    assert!(rt; words == texts(alloc, &["first", "second"])?);
+    let nothing = words_behind_name(alloc, texts(alloc, &[])?.into_iter())?;
+    assert!(rt; nothing.is_empty());
+    Ok(())
+}

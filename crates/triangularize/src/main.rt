@@ -3,7 +3,7 @@
 
 use std::process::ExitCode;
 use std::{env, io};
-use tri_io::{StdSink, StdSource};
+use tri_io::{StdSink, StdSource, words_behind_name};
 use tri_many::{Status, run_many};
 
 // The status where the runtime can't give the words of the command line.
@@ -11,11 +11,7 @@ const NO_WORDS: u8 = 8;
 
 /// The words of the command line without the program's name.
 fn words_of(rt: &HostRuntime) -> io::Result<Vec<String>> {
-    let mut words = Vec::new(rt.alloc());
-    for word in env::args(rt)?.skip(1) {
-        words.push(word)?;
-    }
-    Ok(words)
+    Ok(words_behind_name(rt.alloc(), env::args(rt)?)?)
 }
 
 fn main(rt: HostRuntime) -> ExitCode {

@@ -4,18 +4,14 @@
 use std::process::ExitCode;
 use std::{env, io};
 use tri_alone::{Status, run_alone};
-use tri_io::{StdSink, StdSource};
+use tri_io::{StdSink, StdSource, words_behind_name};
 
 // The status where the runtime can't give the words of the command line.
 const NO_WORDS: u8 = 8;
 
 /// The words of the command line without the program's name.
 fn words_of(rt: &HostRuntime) -> io::Result<Vec<String>> {
-    let mut words = Vec::new(rt.alloc());
-    for word in env::args(rt)?.skip(1) {
-        words.push(word)?;
-    }
-    Ok(words)
+    Ok(words_behind_name(rt.alloc(), env::args(rt)?)?)
 }
 
 fn main(rt: HostRuntime) -> ExitCode {
