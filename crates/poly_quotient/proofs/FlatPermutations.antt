@@ -1,5 +1,5 @@
 -- The parts of a list, joined in another order.
-use Rattle.std.proofs.Common.{◌≡◌, ◌≢◌, ◌⊎◌, ℕ, suc, ◌+◌, ◌-◌, ◌<◌, ◌≤◌, take, drop, append_assoc, Bool, true, false, List, [], ◌∷◌, ◌++◌, length, set, get_or, swap, flat_map, IsPermutation, refl, sym, ap, ◌∙◌, inl, inr, arith}
+use Rattle.std.proofs.Common.{◌≡◌, ◌≢◌, ◌⊎◌, ℕ, ◌+◌, ◌-◌, ◌<◌, ◌≤◌, take, drop, append_assoc, List, [], ◌∷◌, ◌++◌, length, set, get_or, swap, flat_map, IsPermutation, refl, sym, ap, ◌∙◌, inl, inr, arith}
 use Rattle.std.proofs.lemmas.Bool.{cases_eq, cases_lt}
 use Rattle.std.proofs.lemmas.List.{get_or-drop, set-get_or, take-append-drop, drop_more, length-take-le, length-drop, length-append, set_at, set_comm}
 use Rattle.std.proofs.lemmas.List.Concat.{flat_map-append}

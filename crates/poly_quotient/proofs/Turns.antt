@@ -8,7 +8,6 @@ use Rattle.polynomials.specs.Polynomials.{Term, term, Polynomial, IsPolynomial, 
 use Rattle.polynomials.specs.Views.{degree_in}
 use Rattle.polynomials.specs.Fits.{fits}
 use Rattle.polynomials.proofs.RingLaws.{neg-times}
-use Rattle.polynomials.proofs.Canonical.{IsPolynomial-negative_of}
 use Rattle.sparse_poly.proofs.Places.{take_rest}
 use Rattle.polynomials.proofs.PolynomialRing.{polynomial_ring}
 use Rattle.sparse_poly.specs.Pairs.{FitsEach, PairsFit}

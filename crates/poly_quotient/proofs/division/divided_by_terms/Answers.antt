@@ -1,5 +1,5 @@
 -- Each turn is one of the division.
-use Rattle.std.proofs.Common.{◌≡◌, ◌<◌, ◌≤◌, ◌+◌, ◌-◌, ◌*◌, ◌%◌, ◌^◌, ◌∙◌, [], ◌∷◌, ◌++◌, length, take, drop, refl, sym, ap, ap₂, subst, arith, length-append}
+use Rattle.std.proofs.Common.{◌<◌, ◌≤◌, ◌+◌, ◌-◌, ◌*◌, ◌%◌, ◌∙◌, [], ◌∷◌, ◌++◌, length, take, drop, refl, sym, ap, ap₂, subst, arith, length-append}
 use Rattle.std.specs.BinaryHeap.{heap_items}
 use Rattle.mono_words.specs.declared.mono.TheConstants.{VARS}
 use Rattle.polynomials.specs.Polynomials.{term, IsPolynomial}
