@@ -1,4 +1,4 @@
-ghost use Rattle.std.specs.Prelude.{◌≡◌, ◌<◌, ◌↔◌, List, [], ◌∷◌, ◌++◌, ◌+◌, length, IsTrue, IsNone, IfSome, IfNone, IfOk, IfErr, OnErr};
+ghost use Rattle.std.specs.Prelude.{◌≡◌, ◌<◌, ◌↔◌, List, [], ◌∷◌, ◌++◌, ◌+◌, length, take, drop, IsTrue, IsNone, IfSome, IfNone, IfOk, IfErr, OnErr};
 ghost use Rattle.split_paths.specs.Tree.{events_to_come, steps_to_come};
 ghost use Rattle.generators.specs.Turns.{AreLawful, GivesWay, IsLastToCome, Meets, IsLawfulTurn, StarvesAt, steps_made, turns_to_come, turns_made};
 
@@ -62,6 +62,26 @@ impl<X: Splitter> Generator<X> {
             return None;
         }
         self.waiting.take_last()
+    }
+
+    /// Takes the second waiting task away, if there is one, so that what is to come of it comes next.
+    ///
+    /// Without memory the first waiting task is lost.
+    pub fn give_next(&mut self) -> Result<Option<Offer<X>>, AllocError>
+        ensures none { IfOk result (λ given. IsNone given ↔ (length self.old < 2)) }
+        ensures same { IfOk result (λ given. IfNone given (self.new ≡ self.old)) }
+        ensures second { IfOk result (λ given. IfSome given (λ offer.
+            self.old ≡ take 1 self.new ++ offer ∷ drop 1 self.new)) }
+    {
+        if self.count() < 2 {
+            return Ok(None);
+        }
+        let Some(current) = self.waiting.take_first() else {
+            unreachable!()
+        };
+        let next = self.waiting.take_first();
+        self.waiting.push_front(current)?;
+        Ok(next)
     }
 
     /// Makes one step of the first waiting task, if it has a step left, and lets what the step made

@@ -174,11 +174,8 @@ fn turn_line(alloc: Global, generator: &mut Generator<Countdown>) -> Result<Stri
 }
 
 /// What is given, in words.
-fn given_line(alloc: Global, generator: &mut Generator<Countdown>) -> Result<String, AllocError>
-    requires { AreLawful (λ _. Unit {0}) generator.old }
-    ensures { AreLawful (λ _. Unit {0}) generator.new }
-{
-    match generator.give() {
+fn line_of(alloc: Global, given: Option<Offer<Countdown>>) -> Result<String, AllocError> {
+    match given {
         Some(offer) => {
             format!(in alloc;
                 "{} task {} with {} steps",
@@ -189,6 +186,19 @@ fn given_line(alloc: Global, generator: &mut Generator<Countdown>) -> Result<Str
         }
         None => String::from_str(alloc, "nothing"),
     }
+}
+
+fn given_line(alloc: Global, generator: &mut Generator<Countdown>) -> Result<String, AllocError>
+    requires { AreLawful (λ _. Unit {0}) generator.old }
+    ensures { AreLawful (λ _. Unit {0}) generator.new }
+{
+    let given = generator.give();
+    line_of(alloc, given)
+}
+
+fn next_line(alloc: Global, generator: &mut Generator<Countdown>) -> Result<String, AllocError> {
+    let given = generator.give_next()?;
+    line_of(alloc, given)
 }
 
 #[test]
@@ -206,6 +216,26 @@ fn the_last_waiting_task_is_given(rt: HostRuntime) -> Result<(), Fail> {
     assert_eq!(rt; given_line(rt.alloc(), &mut generator)?.as_str(), "nothing");
     assert_eq!(rt; turn_line(rt.alloc(), &mut generator)?.as_str(), "1 chain");
     assert_eq!(rt; turn_line(rt.alloc(), &mut generator)?.as_str(), "done");
+    Ok(())
+}
+
+#[test]
+fn the_second_waiting_task_is_given_next(rt: HostRuntime) -> Result<(), Fail> {
+    let mut generator = below(rt.alloc(), 5, 9)?;
+    assert_eq!(rt; next_line(rt.alloc(), &mut generator)?.as_str(), "nothing");
+    assert_eq!(rt;
+        turn_line(rt.alloc(), &mut generator)?.as_str(),
+        "- split 3"
+    );
+    assert_eq!(rt;
+        next_line(rt.alloc(), &mut generator)?.as_str(),
+        "2 task 3 with 8 steps"
+    );
+    assert_eq!(rt;
+        next_line(rt.alloc(), &mut generator)?.as_str(),
+        "3 task 2 with 8 steps"
+    );
+    assert_eq!(rt; next_line(rt.alloc(), &mut generator)?.as_str(), "nothing");
     Ok(())
 }
 

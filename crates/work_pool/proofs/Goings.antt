@@ -1,5 +1,5 @@
 -- The ways in which a worker goes on, as its fields change.
-use Rattle.std.proofs.Common.{◌≡◌, ◌<◌, ℕ, List, [], ◌∷◌, ◌++◌, length, set, get_or, Option, Some, None, IfSome, IfNone, refl, sym, ap, ap₂, ◌∙◌, subst}
+use Rattle.std.proofs.Common.{◌≡◌, ◌<◌, ℕ, List, [], ◌∷◌, ◌++◌, length, take, drop, set, get_or, Option, Some, None, IfSome, IfNone, refl, sym, ap, ap₂, ◌∙◌, subst}
 use Rattle.std.specs.List.{AllByRecursion}
 use Rattle.std.specs.Option.{option_to_list}
 use Rattle.event_lanes.specs.Views.{LaneView, with_event}
@@ -100,7 +100,7 @@ module _ {T L : Type 0} (events : List (Event L)) (offers : List (Place T)) (old
       → Moves events offers old (record was { waiting = option_to_list left ++ rest })
   none_waits left rest same = stays _ (ap (λ (ws : List (List (Place T))). record was { waiting = ws }) same)
 
-  pub is_given : (before after : List (Place T)) (rest : List (List (Place T))) (offer : Place T) → was.waiting ≡ before ∷ rest → old.offers ≡ [] → before ≡ after ++ offer ∷ []
+  pub is_given : (before after : List (Place T)) (rest : List (List (Place T))) (offer : Place T) → was.waiting ≡ before ∷ rest → old.offers ≡ [] → before ≡ take 1 after ++ offer ∷ drop 1 after
       → Moves events offers old (record was { waiting = after ∷ rest; offers = offer ∷ [] })
   is_given before after rest offer waited free cut =
       from_seen (record was { waiting = after ∷ rest; offers = offer ∷ [] })
@@ -108,7 +108,7 @@ module _ {T L : Type 0} (events : List (Event L)) (offers : List (Place T)) (old
       (ap (λ (v : HomeView T L). v.offers) seen ∙ free) cut refl)
 
   pub may_be_given : (before after : List (Place T)) (rest : List (List (Place T))) (given : Option (Place T)) → was.waiting ≡ before ∷ rest → old.offers ≡ []
-      → IfSome given (λ offer. before ≡ after ++ offer ∷ []) → IfNone given (after ≡ before)
+      → IfSome given (λ offer. before ≡ take 1 after ++ offer ∷ drop 1 after) → IfNone given (after ≡ before)
       → Moves events offers old (record was { waiting = after ∷ rest; offers = option_to_list given })
   may_be_given before after rest (Some offer) waited free cut same = is_given before after rest offer waited free cut
   may_be_given before after rest None waited free cut same =

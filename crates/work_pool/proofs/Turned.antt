@@ -1,5 +1,5 @@
 -- What a worker's turns and its thieves do keeps its account balanced.
-use Rattle.std.proofs.Common.{◌≡◌, ◌<◌, ℕ, zero, suc, ◌+◌, List, [], ◌∷◌, ◌++◌, map, length, set, get_or, refl, sym, ap, ◌∙◌, subst, arith}
+use Rattle.std.proofs.Common.{◌≡◌, ◌<◌, ℕ, zero, suc, ◌+◌, List, [], ◌∷◌, ◌++◌, map, length, take, drop, set, get_or, refl, sym, ap, ◌∙◌, subst, arith}
 use Rattle.std.proofs.lemmas.List.Sums.{sum_by-append, sum_by-cons}
 use Rattle.std.specs.List.{AllByRecursion, flat_map, sum_by}
 use Rattle.account_laws.proofs.Accounts.{weigh, weigh-append}
@@ -16,28 +16,43 @@ use Rattle.work_pool.specs.Works.{HasWorked, IsAtWork, Works, Moves}
 use Rattle.work_pool.proofs.Covered.{all_front, the_last, true_to_come}
 use Rattle.work_pool.proofs.Moved.{balance_moves, one_place, one_event, first_list, took, gave}
 
+-- what holds of each holds of the second and of the others
+all_but_second : {A : Type 0} (P : A → Type 0) (was now : List A) (x : A) → AllByRecursion P was → was ≡ take 1 now ++ x ∷ drop 1 now → P x × AllByRecursion P now
+all_but_second P was [] x all cut = let each = subst (AllByRecursion P) cut all in (each.0, tt)
+all_but_second P was (y ∷ now) x all cut = let each = subst (AllByRecursion P) cut all in (each.1.0, (each.0, each.1.1))
+
+-- and both together weigh what all did
+second_weighs : {T L : Type 0} (step : T → Step T L) (h : Event L → ℕ) (was now : List (Place T)) (offer : Place T) → was ≡ take 1 now ++ offer ∷ drop 1 now
+    → weigh step h was ≡ weigh step h now + weigh step h (offer ∷ [])
+second_weighs step h was [] offer cut = let all = ap (weigh step h) cut in let none = weigh-append step h [] (offer ∷ []) in omega arith
+second_weighs step h was (first ∷ now) offer cut =
+    let all = ap (weigh step h) cut in
+    let one = weigh-append step h (first ∷ []) (offer ∷ now) in
+    let two = weigh-append step h (offer ∷ []) now in
+    let three = weigh-append step h (first ∷ []) now in omega arith
+
 module _ {T L : Type 0} (events : List (Event L)) (offers : List (Place T)) where
-  -- the last task that waits is given
+  -- the second task that waits is given
   pub give_one : (old new : HomeView T L) (was now : List (Place T)) (rest : List (List (Place T))) (offer : Place T) → old.waiting ≡ was ∷ rest → old.offers ≡ []
-      → was ≡ now ++ offer ∷ []
+      → was ≡ take 1 now ++ offer ∷ drop 1 now
       → new ≡ record old { waiting = now ∷ rest; offers = offer ∷ [] }
       → IsAtWork events offers old → Moves events offers old new
   unfolding IsAtWork Moves
   give_one old new was now rest offer waited free cut is desk =
       let all : AllByRecursion (AllByRecursion (IsTrueOffer offers)) (was ∷ rest) =
       subst (λ (ws : List (List (Place T))). AllByRecursion (AllByRecursion (IsTrueOffer offers)) ws) waited desk.true_waiting in
-      let known : AllByRecursion (IsTrueOffer offers) was = all.0 in
+      let known = all_but_second (IsTrueOffer offers) was now offer all.0 cut in
       subst (λ (v : HomeView T L). (step : T → Step T L) → HasWorked events offers step old v) (sym is) (λ step. record {
         desk = record {
           true_events = desk.true_events;
-          true_waiting = (all_front (IsTrueOffer offers) was now offer known cut, all.1);
-          true_offers = (the_last (IsTrueOffer offers) was now offer known cut, tt);
+          true_waiting = (known.1, all.1);
+          true_offers = (known.0, tt);
         };
         balances = λ starts. balance_moves step starts old (record old { waiting = now ∷ rest; offers = offer ∷ [] }) (λ h.
             let none : weigh step h old.offers ≡ 0 = ap (weigh step h) free in
             let one = ap (λ (ws : List (List (Place T))). sum_by h (flat_map (events_to_come step) ws)) waited ∙ first_list step h was rest in
             let two = first_list step h now rest in
-            let three = ap (weigh step h) cut ∙ weigh-append step h now (offer ∷ []) in omega arith);
+            let three = second_weighs step h was now offer cut in omega arith);
         hub = refl;
         number = refl;
         deck = refl;

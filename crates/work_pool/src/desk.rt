@@ -86,17 +86,18 @@ impl<X: Splitter, N: Named<X::Task, X::Leaf>> Home<X, N> {
         }
     }
 
-    /// Takes the last task that waits, if another waits before it.
-    fn give(&mut self)
+    /// Takes the second task that waits, if there is one: what comes of it is needed before the others.
+    fn give(&mut self) -> Result<(), AllocError>
         requires desk { IsAtWork N.events N.offers self.old }
         requires free { self.old.offers ≡ [] }
-        ensures { Moves N.events N.offers self.old self.new }
+        ensures { OnOk result (Moves N.events N.offers self.old self.new) }
     {
         let Some(mut generator) = self.generator.take() else {
-            return;
+            return Ok(());
         };
-        self.offer = generator.give();
+        self.offer = generator.give_next()?;
         self.generator = Some(generator);
+        Ok(())
     }
 
     /// Offers the task that is held, unless there is no room for it.
@@ -185,40 +186,43 @@ impl<X: Splitter, N: Named<X::Task, X::Leaf>> Home<X, N> {
         }
     }
 
-    /// Takes the last task that waits, unless a task is held.
+    /// Takes the second task that waits, unless a task is held.
     #[tactic(auto, using(crate::proofs::Moved::move_rules))]
-    fn fill(&mut self)
+    fn fill(&mut self) -> Result<(), AllocError>
         requires { IsAtWork N.events N.offers self.old }
-        ensures { Moves N.events N.offers self.old self.new }
+        ensures { OnOk result (Moves N.events N.offers self.old self.new) }
     {
         if self.is_free() {
-            self.give();
+            self.give()?;
         }
+        Ok(())
     }
 
     /// Offers a task to the others.
     ///
     /// What the own deck still holds is offered again. A task that comes back is kept.
     #[tactic(auto, using(crate::proofs::Moved::move_rules))]
-    fn share(&mut self)
+    fn share(&mut self) -> Result<(), AllocError>
         requires desk { IsAtWork N.events N.offers self.old }
         requires free { self.old.offers ≡ [] }
-        ensures { Moves N.events N.offers self.old self.new }
+        ensures { OnOk result (Moves N.events N.offers self.old self.new) }
     {
         self.recall();
-        self.fill();
+        self.fill()?;
         self.offer();
+        Ok(())
     }
 
-    /// Offers a task where two wait, unless one came back before.
+    /// Offers a task where two wait and there is a thief, unless one came back before.
     #[tactic(auto, using(crate::proofs::Moved::move_rules))]
-    fn share_one(&mut self)
+    fn share_one(&mut self) -> Result<(), AllocError>
         requires { IsAtWork N.events N.offers self.old }
-        ensures { Moves N.events N.offers self.old self.new }
+        ensures { OnOk result (Moves N.events N.offers self.old self.new) }
     {
-        if self.is_free() && self.has_two() {
-            self.share();
+        if !self.thieves.is_empty() && self.is_free() && self.has_two() {
+            self.share()?;
         }
+        Ok(())
     }
 
     /// Begins with the task that is held, or sets it aside where the answer stops before it.
@@ -251,7 +255,7 @@ impl<X: Splitter, N: Named<X::Task, X::Leaf>> Home<X, N> {
             return self.set_aside();
         }
         if split || self.offers_none() {
-            self.share_one();
+            self.share_one()?;
         }
         Ok(())
     }

@@ -10,5 +10,5 @@ returns-in_default g c =
 
 pub returns : goal.returns
 returns g c =
-    may_be_given _ _ _ _ c.self.view_is c.requires.desk c.in-Some.generator c.give.new.self c.self.inside.aside c.give.result
-    (ap (λ g. option_to_list g ++ c.self.inside.aside) (sym c.take.ensures.value ∙ c.in-Some.is)) c.requires.free c.give.ensures.last c.give.ensures.same
+    may_be_given _ _ _ _ c.self.view_is c.requires.desk c.in-Some.generator c.give_next.new.self c.self.inside.aside c.in_ok-self-inside.field-0
+    (ap (λ g. option_to_list g ++ c.self.inside.aside) (sym c.take.ensures.value ∙ c.in-Some.is)) c.requires.free c.in_ok-self-inside.ensures.second c.in_ok-self-inside.ensures.same
