@@ -11,7 +11,8 @@ use Rattle.polynomials.proofs.Monomialwise.{EachMonomial, EachMonomial-append, E
 use Rattle.sparse_poly.specs.Falling.{IsAtMost}
 use Rattle.sparse_poly.proofs.Places.{IsPolynomial-drop}
 use Rattle.sparse_poly.proofs.Sums.{IsBelow, all_below}
-use Rattle.poly_quotient.specs.Rests.{Entry, term_at, opposite_product, entry_products, products_left, IsEntry, AreProducts}
+use Rattle.sparse_poly.specs.Keys.{term_at}
+use Rattle.poly_quotient.specs.Rests.{Entry, opposite_product, entry_products, products_left, IsEntry, AreProducts}
 use Rattle.poly_quotient.proofs.BegunDivisions.{order_of_multiples}
 use Rattle.poly_quotient.proofs.RestSums.{EachMonomial-from_All}
 use Rattle.poly_quotient.proofs.EntryOrders.{at_most_trans, below_trans}

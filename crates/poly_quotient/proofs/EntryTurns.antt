@@ -6,7 +6,8 @@ use Rattle.std.proofs.lemmas.List.Sorted.{All-permutation, IsPermutation-refl, I
 use Rattle.polynomials.specs.Monomials.{Monomial, monomial_product}
 use Rattle.polynomials.specs.Polynomials.{Term, term, Polynomial, IsPolynomial}
 use Rattle.sparse_poly.specs.Pairs.{FitsEach, PairsFit}
-use Rattle.poly_quotient.specs.Rests.{Entry, term_at, opposite_product, entry_products, products_left, added_products, IsEntry, AreProducts}
+use Rattle.sparse_poly.specs.Keys.{term_at}
+use Rattle.poly_quotient.specs.Rests.{Entry, opposite_product, entry_products, products_left, added_products, IsEntry, AreProducts}
 use Rattle.poly_quotient.proofs.FlatPermutations.{flat_permutation}
 use Rattle.poly_quotient.proofs.EntryOrders.{one_first}
 use Rattle.poly_quotient.proofs.EntryProducts.{drop_term}

@@ -1,11 +1,12 @@
 -- What is left of a division: terms of the dividend, and products in a heap.
-use Rattle.std.specs.Prelude.{◌≡◌, ℕ, suc, ◌+◌, ◌*◌, ◌-◌, ◌%◌, ◌^◌, ◌<◌, List, [], ◌∷◌, ◌++◌, length, map, drop, get_or, All, IsPermutation}
+use Rattle.std.specs.Prelude.{◌≡◌, ℕ, suc, ◌+◌, ◌*◌, ◌-◌, ◌%◌, ◌^◌, ◌<◌, List, ◌∷◌, ◌++◌, length, map, drop, All, IsPermutation}
 use Rattle.std.specs.List.{flat_map}
 use Rattle.std.specs.Ordering.{nat_cmp, ordering_then}
 use Rattle.std.specs.declared.cmp.Ordering.{Ordering}
 use Rattle.polynomials.specs.Monomials.{Monomial, monomial_order, monomial_product}
 use Rattle.polynomials.specs.Polynomials.{Term, term, Polynomial, StartsBelow, IsPolynomial, collected}
 use Rattle.sparse_poly.specs.Falling.{IsAtMost}
+use Rattle.sparse_poly.specs.Keys.{term_at}
 use Rattle.sparse_poly.specs.Pairs.{PairsFit}
 
 -- an entry of a heap: a monomial, and a place in the quotient and one in the divisor
@@ -16,10 +17,6 @@ Entry = Monomial × ℕ × ℕ
 abbrev pub entry_order : Entry → Entry → Ordering
 entry_order d e =
     ordering_then (ordering_then (monomial_order d.0 e.0) (nat_cmp d.1 e.1)) (nat_cmp d.2 e.2)
-
--- the term at a place
-abbrev pub term_at : List Term → ℕ → Term
-term_at f k = get_or f k (term [] 0)
 
 -- the opposite of the product of a term u of the divisor and a term t of the quotient
 abbrev pub opposite_product : ℕ → Term → Term → Term

@@ -6,7 +6,7 @@ ghost use Rattle.sparse_poly.specs.Pairs.{PairsFit};
 ghost use Rattle.division_rules.specs.Quotients.{quotient_within};
 ghost use Rattle.division_rules.proofs.Divisions.{IsDivision};
 
-use crate::boxed::begun;
+use crate::guess::begun;
 use crate::rest::Rest;
 use crate::single::divided_by_term;
 use mono_words::{Mono, VARS};

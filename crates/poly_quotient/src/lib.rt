@@ -3,11 +3,17 @@
 
 mod boxed;
 mod division;
+mod ends;
 mod factors;
+mod guess;
 mod last;
+mod places;
 mod quotient;
 mod rest;
+mod runs;
 mod single;
+mod table;
+mod trial;
 
 pub use factors::strip;
 pub use quotient::quo;

@@ -282,3 +282,95 @@ fn a_factor_stays_where_its_quotient_is_too_wide(rt: HostRuntime) -> Result<(), 
     assert!(rt; left == a);
     Ok(())
 }
+
+/// Terms in two variables whose exponents, below the side, and coefficients come from a sequence.
+fn scattered(alloc: Global, f: Field, count: u32, side: u32) -> Result<Poly, AllocError>
+    ensures { IfOk result (IsPolynomial f VARS) }
+{
+    let mut list = Vec::new(alloc);
+    let mut state = count;
+    for _ in 0..count {
+        let mut numbers = [0; 3];
+        for number in numbers.iter_mut() {
+            state = state.wrapping_mul(1_664_525).wrapping_add(1_013_904_223);
+            *number = state >> 8;
+        }
+        let [d, e, c] = numbers;
+        let side = side.clamp(1, 1000);
+        list.push((
+            (d % side) as u16,
+            (e % side) as u16,
+            f.residue((c >> 8) as u64),
+        ))?;
+    }
+    poly(alloc, f, &list)
+}
+
+/// Whether the quotient of the product of `q` and `b` by `b` is `q`, and whether there is none where
+/// `less` is taken from the product.
+fn recovers(alloc: Global, w: Work, q: &Poly, b: &Poly, less: &Poly) -> Result<bool, AllocError>
+    requires left { IsPolynomial w.field VARS q.now }
+    requires right { IsPolynomial w.field VARS b.now }
+    requires less { IsPolynomial w.field VARS less.now }
+{
+    if b.is_zero() {
+        return Ok(false);
+    }
+    let Work { field, width } = w;
+    let Some(product) = q.mul(Work { field, width }, b)? else {
+        return Ok(false);
+    };
+    let Some(found) = quo(alloc, Work { field, width }, &product, b)? else {
+        return Ok(false);
+    };
+    let other = product.sub(field, less)?;
+    Ok(found == *q && quo(alloc, Work { field, width }, &other, b)?.is_none())
+}
+
+#[test]
+fn a_product_has_both_factors_as_quotients(rt: HostRuntime) -> Result<(), Fail> {
+    let alloc = rt.alloc();
+    for (p, side) in [(2, 12), (2, 1000), (65521, 12), (65521, 1000)] {
+        let field = Field::of(p)?;
+        let w = Work {
+            field,
+            width: 100_000,
+        };
+        let many = scattered(alloc, field, 80, side)?;
+        let few = scattered(alloc, field, 20, side)?;
+        let less = poly(alloc, field, &[(side as u16, 3, 1)])?;
+        assert!(rt; recovers(alloc, w, &many, &few, &less)?, "{p}, by few");
+        assert!(rt; recovers(alloc, w, &few, &many, &less)?, "{p}, by many");
+    }
+    Ok(())
+}
+
+#[test]
+fn most_products_may_cancel(rt: HostRuntime) -> Result<(), Fail> {
+    let alloc = rt.alloc();
+    let field = Field::of(5)?;
+    let w = Work {
+        field,
+        width: 100_000,
+    };
+    // The powers of x below the 40th, times x + 4, make x^40 + 4.
+    let mut list = Vec::new(alloc);
+    for e in 0..40 {
+        list.push((e, 0, 1))?;
+    }
+    let powers = poly(alloc, field, &list)?;
+    let x_plus_four = poly(alloc, field, &[(1, 0, 1), (0, 0, 4)])?;
+    let (first, second) = (
+        scattered(alloc, field, 8, 1000)?,
+        scattered(alloc, field, 9, 1000)?,
+    );
+    let less = poly(alloc, field, &[(1000, 3, 1)])?;
+    let (Some(many), Some(few)) = (first.mul(w, &powers)?, second.mul(w, &x_plus_four)?) else {
+        assert!(rt; false);
+        return Ok(());
+    };
+    assert!(rt; recovers(alloc, w, &many, &few, &less)?);
+    assert!(rt; recovers(alloc, w, &few, &many, &less)?);
+    assert!(rt; recovers(alloc, w, &powers, &x_plus_four, &less)?);
+    Ok(())
+}

@@ -9,6 +9,12 @@ use Rattle.polynomials.specs.Monomials.{Monomial, monomial_order, monomial_produ
 use Rattle.polynomials.specs.MonomialOrders.{monomial_order_same}
 use Rattle.sparse_poly.specs.Boxes.{box_size, IsInside, place_of}
 
+-- m is the monomial of n exponents at the place k of the box
+pub record IsAt (n : ℕ) (sides : List ℕ) (k : ℕ) (m : Monomial) : Type 0 where
+  pub variables : length m ≡ n
+  pub inside : IsInside sides m
+  pub place : place_of sides m ≡ k
+
 -- a factor times a sum
 pub times_sum : (s a b : ℕ) → s * (a + b) ≡ s * a + s * b
 times_sum s a b = omega (arith, ring_step s a b)

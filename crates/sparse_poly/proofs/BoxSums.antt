@@ -1,6 +1,6 @@
--- The slots of a product from their start to their end.
-use Rattle.std.proofs.Common.{◌≡◌, ◌≢◌, ℕ, zero, suc, ◌+◌, ◌*◌, ◌%◌, ◌^◌, ◌<◌, List, [], ◌∷◌, ◌++◌, length, drop, map, replicate, refl, sym, ap, ◌∙◌, append-nil, arith}
-use Rattle.std.proofs.lemmas.List.{get_or-map, get_or-replicate, length-map, length-replicate}
+-- The sums of a product from their start to their end.
+use Rattle.std.proofs.Common.{◌≡◌, ◌≢◌, ℕ, ◌+◌, ◌*◌, ◌%◌, ◌^◌, ◌<◌, ◌≤◌, List, [], ◌∷◌, ◌++◌, length, get_or, drop, replicate, sym, ap, ◌∙◌, append-nil, arith}
+use Rattle.std.proofs.lemmas.List.{length-replicate}
 use Rattle.std.proofs.lemmas.List.Elements.{All-replicate}
 use Rattle.polynomials.specs.Monomials.{Monomial}
 use Rattle.polynomials.specs.Polynomials.{Term, term, with_first, term_products, product_of, IsPolynomial}
@@ -8,70 +8,50 @@ use Rattle.polynomials.proofs.Canonical.{IsPolynomial-product_of}
 use Rattle.polynomials.proofs.FirstTerms.{with_first_nonzero}
 use Rattle.polynomials.proofs.SamePolynomials.{SameSums, SameSums-trans, SameSums-sym, SameSums-refl, SameSums-collected, same_from_sums}
 use Rattle.polynomials.proofs.SameSumsLemmas.{SameSums-append}
-use Rattle.sparse_poly.specs.declared.boxes.Slot.{Slot}
-use Rattle.sparse_poly.specs.Boxes.{box_size, AreSlots, HavePlaces, slot_term, from_slots}
-use Rattle.sparse_poly.proofs.Slots.{order_of_zeros, zeros_hold_nothing, slots_fall, slots_sums}
+use Rattle.sparse_poly.specs.Boxes.{box_size, monomial_of_place, boxed, AreSums, from_slots}
+use Rattle.sparse_poly.proofs.Slots.{slots_fall, slots_sums}
 use Rattle.sparse_poly.proofs.BoxTurns.{from_slots_turn}
-use Rattle.sparse_poly.proofs.BoxRows.{slot_at}
+use Rattle.sparse_poly.proofs.BoxMonomials.{HavePlaces, length-boxed, get_or-boxed, boxed_stands, boxed_zeros}
 
-module _ (p j : ℕ) (short long out : List Term) (slots : List Slot) (below : j < length slots) (made : out ≡ from_slots p (drop (j + 1) (map (slot_term short long) slots))) where
-  abbrev F : Slot → Term
-  F = slot_term short long
+module _ (p n : ℕ) (sides : List ℕ) (j : ℕ) (out : List Term) (sums : List ℕ) (below : j < length sums) (made : out ≡ from_slots p (drop (j + 1) (boxed n sides 0 sums))) where
+  abbrev slot : Term
+  slot = term (monomial_of_place n sides j) (get_or sums j 0)
 
-  emptied : out ++ with_first (term (F (slot_at slots j)).0 ((slot_at slots j).sum % p)) [] ≡ from_slots p (drop j (map F slots))
+  emptied : out ++ with_first (term (monomial_of_place n sides j) (get_or sums j 0 % p)) [] ≡ from_slots p (drop j (boxed n sides 0 sums))
   emptied =
-      from_slots_turn p j (F (slot_at slots j)) out (map F slots) (omega (arith, length-map slots F))
-      (sym (get_or-map F slots j (record { sum = 0; left = 0; right = 0 }) (F (slot_at slots j)) below)) made
+      from_slots_turn p j slot out (boxed n sides 0 sums) (omega (arith, length-boxed n sides 0 sums))
+      (sym (get_or-boxed n sides 0 sums j slot 0 below ∙ ap (λ k. term (monomial_of_place n sides k) (get_or sums j 0)) (omega arith))) made
 
-  -- a slot whose sum isn't 0 gives a term
-  pub emptied_some : (m : Monomial) (c : ℕ) → m ≡ (F (slot_at slots j)).0 → c ≡ (slot_at slots j).sum % p → c ≢ 0 → out ++ term m c ∷ [] ≡ from_slots p (drop j (map F slots))
+  -- a sum that isn't 0 gives a term
+  pub emptied_some : (m : Monomial) (c : ℕ) → m ≡ monomial_of_place n sides j → c ≡ get_or sums j 0 % p → c ≢ 0 → out ++ term m c ∷ [] ≡ from_slots p (drop j (boxed n sides 0 sums))
   emptied_some m c same sum some =
       ap (λ (l : Monomial). out ++ term l c ∷ []) same
-      ∙ ap (λ (l : List Term). out ++ l) (sym (with_first_nonzero (F (slot_at slots j)).0 c [] some))
-      ∙ ap (λ (x : ℕ). out ++ with_first (term (F (slot_at slots j)).0 x) []) sum ∙ emptied
+      ∙ ap (λ (l : List Term). out ++ l) (sym (with_first_nonzero (monomial_of_place n sides j) c [] some))
+      ∙ ap (λ (x : ℕ). out ++ with_first (term (monomial_of_place n sides j) x) []) sum ∙ emptied
 
   -- another none
-  pub emptied_none : 0 ≡ (slot_at slots j).sum % p → out ≡ from_slots p (drop j (map F slots))
+  pub emptied_none : 0 ≡ get_or sums j 0 % p → out ≡ from_slots p (drop j (boxed n sides 0 sums))
   emptied_none sum =
-      sym (append-nil out) ∙ ap (λ (x : ℕ). out ++ with_first (term (F (slot_at slots j)).0 x) []) sum ∙ emptied
+      sym (append-nil out) ∙ ap (λ (x : ℕ). out ++ with_first (term (monomial_of_place n sides j) x) []) sum ∙ emptied
 
--- the empty slot
-abbrev pub nothing : Slot
-nothing = record { sum = 0; left = 0; right = 0 }
+-- at first each sum is 0
+pub empty_sums : (sides : List ℕ) (size : ℕ) (long : List Term) → size ≡ box_size sides → AreSums sides (0 * (length long * 2 ^ 32)) (replicate size 0)
+empty_sums sides size long is = record {
+  count = length-replicate size 0 ∙ is;
+  bound = All-replicate (λ (c : ℕ). c ≤ 0 * (length long * 2 ^ 32)) size 0 (omega arith);
+}
 
-module _ (p n size : ℕ) (sides : List ℕ) (short long : List Term) where
-  abbrev E : Slot → Term
-  E = slot_term short long
+-- and all products are to come
+pub empty_same : (p n : ℕ) (sides : List ℕ) (size : ℕ) (short long : List Term) → SameSums p (boxed n sides 0 (replicate size 0) ++ term_products short long) (term_products short long)
+empty_same p n sides size short long =
+    SameSums-append p (boxed n sides 0 (replicate size 0)) (term_products short long) [] (term_products short long)
+    (boxed_zeros p n sides 0 size) (SameSums-refl p (term_products short long))
 
-  zeros_are : (count : ℕ) → map E (replicate count nothing) ≡ replicate count (term (E nothing).0 0)
-  zeros_are zero = refl
-  zeros_are (suc count) = ap (λ (l : List Term). term (E nothing).0 0 ∷ l) (zeros_are count)
-
-  -- at first each slot is empty
-  pub empty_slots : size ≡ box_size sides → AreSlots n sides (0 * (length long * 2 ^ 32)) (map E (replicate size nothing))
-  empty_slots is = rw (zeros_are size) (record {
-    count = length-replicate size (term (E nothing).0 0) ∙ is;
-    order = order_of_zeros n sides 0 (E nothing).0 size;
-    sums = λ k s inside e.
-        let within : k < size = omega (arith, length-replicate size (term (E nothing).0 0)) in
-        let none = ap (λ (x : Term). x.1) (e ∙ get_or-replicate size k (term (E nothing).0 0) s within) in
-        omega arith;
-  })
-
-  pub empty_places : 0 < length short → 0 < length long → HavePlaces short long (replicate size nothing)
-  empty_places left right = All-replicate (λ (s : Slot). (s.left < length short) × (s.right < length long)) size nothing (left, right)
-
-  -- and all products are to come
-  pub empty_sums : SameSums p (map E (replicate size nothing) ++ term_products short long) (term_products short long)
-  empty_sums = rw (zeros_are size)
-      (SameSums-append p (replicate size (term (E nothing).0 0)) (term_products short long) [] (term_products short long)
-      (zeros_hold_nothing p (E nothing).0 size) (SameSums-refl p (term_products short long)))
-
--- slots that hold the products of all pairs hold the product
-pub full_slots : (p n most : ℕ) (sides : List ℕ) (short long slots : List Term) → 0 < p → IsPolynomial p n short → IsPolynomial p n long → AreSlots n sides most slots → SameSums p slots (term_products short long) → from_slots p slots ≡ product_of p short long
-full_slots p n most sides short long slots positive left right are sums =
-    same_from_sums p n (from_slots p slots) (product_of p short long)
-    (slots_fall p n sides 0 slots positive are.order).1
+-- sums that hold the products of all pairs hold the product
+pub full_sums : (p n : ℕ) (sides : List ℕ) (short long : List Term) (sums : List ℕ) → 0 < p → IsPolynomial p n short → IsPolynomial p n long → length sides ≤ n → HavePlaces sides → length sums ≡ box_size sides → SameSums p (boxed n sides 0 sums) (term_products short long) → from_slots p (boxed n sides 0 sums) ≡ product_of p short long
+full_sums p n sides short long sums positive left right few some count same =
+    same_from_sums p n (from_slots p (boxed n sides 0 sums)) (product_of p short long)
+    (slots_fall p n sides 0 (boxed n sides 0 sums) positive (boxed_stands n sides 0 sums few some (omega arith))).1
     (IsPolynomial-product_of p n positive short long left right)
-    (SameSums-trans p (from_slots p slots) slots (product_of p short long) (slots_sums p slots)
-    (SameSums-trans p slots (term_products short long) (product_of p short long) sums (SameSums-sym p (product_of p short long) (term_products short long) (SameSums-collected p (term_products short long)))))
+    (SameSums-trans p (from_slots p (boxed n sides 0 sums)) (boxed n sides 0 sums) (product_of p short long) (slots_sums p (boxed n sides 0 sums))
+    (SameSums-trans p (boxed n sides 0 sums) (term_products short long) (product_of p short long) same (SameSums-sym p (product_of p short long) (term_products short long) (SameSums-collected p (term_products short long)))))

@@ -12,9 +12,9 @@ use Rattle.polynomials.proofs.Exponents.{exponent_of-product}
 use Rattle.polynomials.proofs.MainVariables.{IsGreatest, greatest_variable_is}
 use Rattle.polynomials.proofs.SamePolynomials.{SameSums, SameSums-trans, SameSums-refl, SameSums-from_path}
 use Rattle.polynomials.proofs.SameSumsLemmas.{SameSums-append}
-use Rattle.sparse_poly.specs.Boxes.{box_size, IsInside, place_of, IsAt, from_slots}
+use Rattle.sparse_poly.specs.Boxes.{box_size, IsInside, place_of, from_slots}
 use Rattle.sparse_poly.proofs.Places.{drop_item}
-use Rattle.sparse_poly.proofs.BoxPlaces.{place_of-product, place_within, times_sum}
+use Rattle.sparse_poly.proofs.BoxPlaces.{IsAt, place_of-product, place_within, times_sum}
 use Rattle.sparse_poly.proofs.Slots.{added_to_slot}
 
 -- one side more
@@ -148,3 +148,10 @@ inside_push sides n side d count small inside w below = elim (cases_lt w n) [
       let same : d w ≡ d n = ap d (omega arith) in
       omega arith
 ]
+
+-- no side passes the bound
+pub narrow_push : (sides : List ℕ) (side most : ℕ) → 1 ≤ most → side ≤ most → ((w : ℕ) → get_or sides w 1 ≤ most) → (w : ℕ) → get_or (sides ++ side ∷ []) w 1 ≤ most
+narrow_push [] side most one small narrow zero = small
+narrow_push [] side most one small narrow (suc w) = one
+narrow_push (s ∷ sides) side most one small narrow zero = narrow 0
+narrow_push (s ∷ sides) side most one small narrow (suc w) = narrow_push sides side most one small (λ u. narrow (suc u)) w

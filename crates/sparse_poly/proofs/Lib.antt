@@ -16,6 +16,7 @@ pub mod Leads
 pub mod BoxPlaces
 pub mod Slots
 pub mod BoxTurns
+pub mod BoxMonomials
 pub mod BoxRows
 pub mod BoxSums
 mod Copies
@@ -24,3 +25,4 @@ pub mod LeadEnds
 pub mod TailFits
 pub mod OnePass
 pub mod TailBounds
+pub mod KeyTurns

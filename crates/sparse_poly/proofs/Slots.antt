@@ -1,8 +1,6 @@
 -- Slots of a box: a product of two terms that is added, and the polynomial that they hold.
-use Rattle.std.proofs.Common.{◌≡◌, ℕ, zero, suc, ◌+◌, ◌%◌, ◌<◌, ◌≤◌, List, [], ◌∷◌, ◌++◌, length, get_or, set, replicate, sym, ap, ◌∙◌, inl, inr, subst, append-nil, arith}
+use Rattle.std.proofs.Common.{◌≡◌, ℕ, zero, suc, ◌+◌, ◌%◌, ◌<◌, ◌≤◌, List, [], ◌∷◌, ◌++◌, length, get_or, set, sym, ap, ◌∙◌, subst, append-nil, arith}
 use Rattle.std.proofs.Math.Nat.{mod-lt}
-use Rattle.std.proofs.lemmas.Bool.{cases_eq}
-use Rattle.std.proofs.lemmas.List.{length-set, get_or-set_same, get_or-set_other}
 use Rattle.std.specs.declared.cmp.Ordering.TheVariants.{Less}
 use Rattle.polynomials.specs.Monomials.{Monomial, monomial_order}
 use Rattle.polynomials.specs.Polynomials.{Term, term, Polynomial, IsPolynomial, with_first}
@@ -14,37 +12,14 @@ use Rattle.polynomials.proofs.Monomialwise.{EachMonomial, EachMonomial-append, E
 use Rattle.polynomials.proofs.Residues.{residues}
 use Rattle.polynomials.proofs.SamePolynomials.{SameSums, SameSums-trans, SameSums-sym, SameSums-refl}
 use Rattle.polynomials.proofs.SameSumsLemmas.{weighted_sum-set, SameSums-append, SameSums-append_comm, SameSums-zero, SameSums-reduced}
-use Rattle.sparse_poly.specs.Boxes.{IsAt, StandInOrder, AreSlots, from_slots}
-use Rattle.sparse_poly.proofs.BoxPlaces.{same_place, lower_place}
+use Rattle.sparse_poly.specs.Boxes.{from_slots}
+use Rattle.sparse_poly.proofs.BoxPlaces.{IsAt, lower_place}
 
--- the monomial at a place
-pub order_at : (n : ℕ) (sides : List ℕ) (k i : ℕ) (slots : List Term) (slot : Term) → StandInOrder n sides k slots → i < length slots → slot ≡ get_or slots i slot → 0 < slot.1 → IsAt n sides (k + i) slot.0
-order_at n sides k i [] slot order below at some = absurd (omega arith)
-order_at n sides k zero (s ∷ slots) slot order below at some =
-    subst (λ (x : Term). IsAt n sides (k + 0) x.0) (sym at)
-    (subst (λ j. IsAt n sides j s.0) (omega arith) (order.0 (subst (λ (x : Term). 0 < x.1) at some)))
-order_at n sides k (suc i) (s ∷ slots) slot order below at some =
-    subst (λ j. IsAt n sides j slot.0) (omega arith) (order_at n sides (suc k) i slots slot order.1 (omega arith) at some)
-
--- another slot with the monomial of its place
-pub order-set : (n : ℕ) (sides : List ℕ) (k i : ℕ) (slots : List Term) (slot : Term) → StandInOrder n sides k slots → i < length slots → IsAt n sides (k + i) slot.0 → StandInOrder n sides k (set slots i slot)
-order-set n sides k i [] slot order below is = absurd (omega arith)
-order-set n sides k zero (s ∷ slots) slot order below is =
-    ((λ some. subst (λ j. IsAt n sides j slot.0) (omega arith) is), order.1)
-order-set n sides k (suc i) (s ∷ slots) slot order below is =
-    (order.0, order-set n sides (suc k) i slots slot order.1 (omega arith) (subst (λ j. IsAt n sides j slot.0) (omega arith) is))
-
--- empty slots
-pub order_of_zeros : (n : ℕ) (sides : List ℕ) (k : ℕ) (m : Monomial) (count : ℕ) → StandInOrder n sides k (replicate count (term m 0))
-order_of_zeros n sides k m zero = tt
-order_of_zeros n sides k m (suc count) = ((λ some. absurd (omega arith)), order_of_zeros n sides (suc k) m count)
-
--- they hold nothing
-pub zeros_hold_nothing : (p : ℕ) (m : Monomial) (count : ℕ) → SameSums p (replicate count (term m 0)) []
-zeros_hold_nothing p m zero = SameSums-refl p []
-zeros_hold_nothing p m (suc count) =
-    SameSums-trans p (term m 0 ∷ replicate count (term m 0)) (replicate count (term m 0)) []
-    (SameSums-zero p m (replicate count (term m 0))) (zeros_hold_nothing p m count)
+-- from the place k on, what isn't 0 has the monomial of its place
+abbrev pub StandInOrder : ℕ → List ℕ → ℕ → List Term → Type 0
+StandInOrder n sides k [] = Unit {0}
+StandInOrder n sides k (slot ∷ slots) =
+    (0 < slot.1 → IsAt n sides k slot.0) × StandInOrder n sides (suc k) slots
 
 -- a coefficient of its monomial or 0 has the weight that it has beside that monomial
 weight_of_slot : {A : Type 0} (r : Ring A) (h : Monomial → A) (slot : Term) (m : Monomial) → (0 < slot.1 → slot.0 ≡ m) → r.◌⊗◌ (natural_in r slot.1) (h slot.0) ≡ r.◌⊗◌ (natural_in r slot.1) (h m)
@@ -128,32 +103,3 @@ slots_sums p (s ∷ slots) =
     kept : (c : ℕ) → SameSums p (with_first (term s.0 c) []) (term s.0 c ∷ [])
     kept zero = SameSums-sym p (term s.0 0 ∷ []) [] (SameSums-zero p s.0 [])
     kept (suc c) = SameSums-refl p (term s.0 (suc c) ∷ [])
-
--- what stands in the slot of a monomial is 0 or has that monomial
-pub slot_same : (n : ℕ) (sides : List ℕ) (most i : ℕ) (slots : List Term) (slot : Term) (m : Monomial) → AreSlots n sides most slots → i < length slots → slot ≡ get_or slots i slot → IsAt n sides i m → 0 < slot.1 → slot.0 ≡ m
-slot_same n sides most i slots slot m are below at is some =
-    let there = order_at n sides 0 i slots slot are.order below at some in
-    let place = there.place in
-    let here = is.place in
-    same_place sides slot.0 m (there.variables ∙ sym is.variables) there.inside is.inside (omega arith)
-
--- with a product added they are slots
-pub slots_step : (n : ℕ) (sides : List ℕ) (most add i x : ℕ) (slots : List Term) (slot : Term) (m : Monomial) → AreSlots n sides most slots → i < length slots → slot ≡ get_or slots i slot → IsAt n sides i m → x ≤ add → AreSlots n sides (most + add) (set slots i (term m (slot.1 + x)))
-slots_step n sides most add i x slots slot m are below at is little = record {
-  count = length-set slots i (term m (slot.1 + x)) ∙ are.count;
-  order = order-set n sides 0 i slots (term m (slot.1 + x)) are.order below (subst (λ j. IsAt n sides j m) (omega arith) is);
-  sums = λ k s inside e. each k s inside e;
-}
-  where
-    each : (k : ℕ) (s : Term) → k < length (set slots i (term m (slot.1 + x))) → s ≡ get_or (set slots i (term m (slot.1 + x))) k s → s.1 ≤ most + add
-    each k s inside e = elim (cases_eq k i) [
-      | inl same ↦
-          let new : s ≡ term m (slot.1 + x) = e ∙ ap (λ j. get_or (set slots i (term m (slot.1 + x))) j s) same ∙ get_or-set_same slots i (term m (slot.1 + x)) s below in
-          let value : s.1 ≡ slot.1 + x = ap (λ (t : Term). t.1) new in
-          let old = are.sums i slot below at in
-          omega arith
-      | inr other ↦
-          let within : k < length slots = omega (arith, length-set slots i (term m (slot.1 + x))) in
-          let old = are.sums k s within (e ∙ get_or-set_other slots i k (term m (slot.1 + x)) s other) in
-          omega arith
-    ]

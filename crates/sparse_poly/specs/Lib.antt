@@ -3,4 +3,5 @@ pub mod Pairs
 pub mod Falling
 pub mod Values
 pub mod Boxes
+pub mod Keys
 pub mod Tails

@@ -5,6 +5,7 @@ mod arithmetic;
 mod boxes;
 mod collect;
 mod fitting;
+mod keys;
 mod merge;
 mod multiples;
 mod poly;

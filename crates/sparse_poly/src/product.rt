@@ -2,9 +2,11 @@ ghost use Rattle.std.specs.Prelude.{◌≡◌, ◌<◌, ◌≤◌, ◌*◌, ◌^
 ghost use Rattle.polynomials.specs.Monomials.{exponent_of};
 ghost use Rattle.polynomials.specs.Polynomials.{IsPolynomial, product_of};
 ghost use Rattle.polynomials.specs.Views.{degree_in};
+ghost use Rattle.sparse_poly.specs.Boxes.{IsBoxOf};
 ghost use Rattle.sparse_poly.specs.Pairs.{PairsFit};
 
 use crate::boxes::{product_in_box, sides_of_product};
+use crate::keys::product_by_keys;
 use crate::merge::{Sign, merged};
 use crate::multiples::{sum_of_multiples, term_times};
 use crate::poly::Poly;
@@ -12,11 +14,15 @@ use field_table::Field;
 use mono_words::{Mono, VARS};
 use std::alloc::{AllocError, Global};
 
-/// The fewest terms of both factors that are multiplied in a box: merges take less time below.
+/// The fewest terms of both factors where monomials are counted by their places: merges take less
+/// time below.
 const FEWEST_TERMS: usize = 6;
 
-/// The most places of a box, which takes 16 bytes for each.
+/// The most places with a sum for each, which takes 8 bytes.
 const MOST_PLACES: usize = 1 << 24;
+
+/// The most pairs that are sorted at once, of 16 bytes each: so many stay near the processor.
+const MOST_PAIRS: usize = 1 << 17;
 
 /// The product of two polynomials, of which the first has no more terms.
 pub fn product(
@@ -37,7 +43,8 @@ pub fn product(
 }
 
 /// The product: by a sum for each monomial of a box where few places of it are left empty, else by
-/// merges. `a` and `b` have at least the degrees of the factors.
+/// the sorted places of all pairs; of few terms, or where no box is that large, by merges. `a` and
+/// `b` have at least the degrees of the factors.
 pub fn product_of_parts(
     alloc: Global,
     f: Field,
@@ -57,14 +64,39 @@ pub fn product_of_parts(
 {
     let (few, many) = (short.len(), long.len());
     if few >= FEWEST_TERMS && many >= FEWEST_TERMS {
-        let most = 2 * few * many;
-        if most <= MOST_PLACES {
-            if let Some((sides, size)) = sides_of_product(alloc, a, b, most)? {
+        if let Some((sides, size)) = sides_of_product(alloc, a, b)? {
+            if size <= MOST_PLACES && size <= 2 * few * many {
                 return product_in_box(alloc, f, &sides, size, short, long);
             }
+            return keyed_product(alloc, f, &sides, short, long);
         }
     }
     merged_product(alloc, f, short, long)
+}
+
+/// The product, by merges of products whose pairs are few enough to be sorted at once.
+fn keyed_product(
+    alloc: Global,
+    f: Field,
+    sides: &[usize],
+    short: &[(Mono, u32)],
+    long: &[(Mono, u32)],
+) -> Result<Vec<(Mono, u32)>, AllocError>
+    requires { IsBoxOf f VARS sides.now short.now long.now }
+    ensures value { IfOk result (λ r. r.items ≡ product_of f short.now long.now) }
+    ensures over { IfOk result (λ r. IsPolynomial f VARS r.items) }
+{
+    f.facts();
+    if short.len() < FEWEST_TERMS {
+        return merged_product(alloc, f, short, long);
+    }
+    if short.len() * long.len() <= MOST_PAIRS {
+        return product_by_keys(alloc, f, sides, short, long);
+    }
+    let (left, right) = short.split_at(short.len() / 2);
+    let left = keyed_product(alloc, f, sides, left, long)?;
+    let right = keyed_product(alloc, f, sides, right, long)?;
+    merged(alloc, f, &left, Sign::Plus, &right)
 }
 
 /// The product, by a balanced tree of merges of the terms of `short` times `long`.

@@ -165,6 +165,58 @@ fn products_agree_with_sums_done_by_hand(rt: HostRuntime) -> Result<(), Fail> {
     Ok(())
 }
 
+/// Terms whose exponents scatter.
+fn scattered(alloc: Global, f: Field, count: usize, seed: u32) -> Result<Poly, AllocError>
+    ensures { IfOk result (IsPolynomial f VARS) }
+{
+    let mut terms = Vec::new(alloc);
+    let mut state = seed;
+    for _ in 0..count {
+        state = state.wrapping_mul(1_664_525).wrapping_add(1_013_904_223);
+        let [d, e, g, c] = state.to_be_bytes();
+        terms.push((c as u32, d as u16, e as u16, g as u16))?;
+    }
+    poly(alloc, f, &terms)
+}
+
+/// The sum of the products of all pairs of terms.
+fn sum_of_pairs(alloc: Global, f: Field, a: &Poly, b: &Poly) -> Result<Poly, AllocError> {
+    let mut terms = Vec::new(alloc);
+    for t in a.terms() {
+        for u in b.terms() {
+            if t.0.fits(u.0) {
+                terms.push((t.0.product(u.0), f.residue(t.1 as u64 * u.1 as u64)))?;
+            }
+        }
+    }
+    Poly::from_terms(alloc, f, &terms)
+}
+
+/// Whether a product of so many scattered terms is the sum of the products of all pairs.
+fn is_sum_of_pairs(alloc: Global, p: u64, few: usize, many: usize) -> Result<bool, Fail> {
+    let field = Field::of(p)?;
+    let a = scattered(alloc, field, few, 1)?;
+    let b = scattered(alloc, field, many, 2)?;
+    let sum = sum_of_pairs(alloc, field, &a, &b)?;
+    let width = u32::MAX;
+    Ok(
+        a.mul(Work { field, width }, &b)?
+            .is_some_and(|made| made == sum),
+    )
+}
+
+#[test]
+fn products_of_scattered_terms_are_sums_of_all_pairs(rt: HostRuntime) -> Result<(), Fail> {
+    let alloc = rt.alloc();
+    assert!(rt; is_sum_of_pairs(alloc, 32003, 6, 6)?);
+    assert!(rt; is_sum_of_pairs(alloc, 32003, 6, 40)?);
+    assert!(rt; is_sum_of_pairs(alloc, 32003, 40, 40)?);
+    // So many pairs are sorted in parts.
+    assert!(rt; is_sum_of_pairs(alloc, 32003, 400, 400)?);
+    assert!(rt; is_sum_of_pairs(alloc, 2, 400, 4000)?);
+    Ok(())
+}
+
 #[test]
 fn a_square_fits_from_the_number_of_its_pairs_on(rt: HostRuntime) -> Result<(), Fail> {
     let alloc = rt.alloc();

@@ -8,7 +8,7 @@ use crate::homes::Home;
 use event_lanes::Hub;
 use generators::{Generator, Turn};
 use offer_deck::Steal;
-use split_paths::{Event, Named, Offer, Splitter};
+use split_paths::{Named, Offer, Splitter};
 use std::alloc::{AllocError, Global};
 use std::hint::spin_loop;
 use std::sync::Wait;
@@ -41,8 +41,8 @@ impl<X: Splitter, N: Named<X::Task, X::Leaf>> Home<X, N> {
         }
     }
 
-    /// Makes a turn of the generator, and tells whether it met a split.
-    fn turn(&mut self, splitter: &X) -> Result<bool, AllocError>
+    /// Makes a turn of the generator.
+    fn turn(&mut self, splitter: &X) -> Result<(), AllocError>
         requires key { IsClosedKey (X.step splitter.now) (X.lawful_task splitter.now)
             N.events N.offers }
         requires desk { IsAtWork N.events N.offers self.old }
@@ -50,20 +50,19 @@ impl<X: Splitter, N: Named<X::Task, X::Leaf>> Home<X, N> {
         ensures { OnOk result (Works N.events N.offers (X.step splitter.now) self.old self.new) }
     {
         let Some(mut generator) = self.generator.take() else {
-            return Ok(false);
+            return Ok(());
         };
         match generator.turn(splitter) {
             Ok(Turn::Quiet) => {
                 self.generator = Some(generator);
-                Ok(false)
+                Ok(())
             }
             Ok(Turn::Event(event)) => {
-                let split = matches!(&event, Event::Split { .. });
                 self.event = Some(event);
                 self.generator = Some(generator);
-                Ok(split)
+                Ok(())
             }
-            Ok(Turn::Done) => Ok(false),
+            Ok(Turn::Done) => Ok(()),
             Err(_) => Err(AllocError),
         }
     }
@@ -186,29 +185,14 @@ impl<X: Splitter, N: Named<X::Task, X::Leaf>> Home<X, N> {
         }
     }
 
-    /// Takes the second task that waits, unless a task is held.
-    #[tactic(auto, using(crate::proofs::Moved::move_rules))]
-    fn fill(&mut self) -> Result<(), AllocError>
-        requires { IsAtWork N.events N.offers self.old }
-        ensures { OnOk result (Moves N.events N.offers self.old self.new) }
-    {
-        if self.is_free() {
-            self.give()?;
-        }
-        Ok(())
-    }
-
-    /// Offers a task to the others.
-    ///
-    /// What the own deck still holds is offered again. A task that comes back is kept.
+    /// Offers a task to the others. One that comes back is kept.
     #[tactic(auto, using(crate::proofs::Moved::move_rules))]
     fn share(&mut self) -> Result<(), AllocError>
         requires desk { IsAtWork N.events N.offers self.old }
         requires free { self.old.offers ≡ [] }
         ensures { OnOk result (Moves N.events N.offers self.old self.new) }
     {
-        self.recall();
-        self.fill()?;
+        self.give()?;
         self.offer();
         Ok(())
     }
@@ -239,22 +223,17 @@ impl<X: Splitter, N: Named<X::Task, X::Leaf>> Home<X, N> {
         Ok(())
     }
 
-    /// Sets the generator aside where the answer stops before all that waits. Else offers a task: after
-    /// a split, or where thieves find no offer of this worker.
+    /// Sets the generator aside where the answer stops before all that waits. Else offers a task, where
+    /// thieves find no offer of this worker.
     #[tactic(auto, using(crate::proofs::Moved::move_rules))]
-    fn share_or_set_aside<R: Wait>(
-        &mut self,
-        rt: &R,
-        stop: &FirstStop,
-        split: bool,
-    ) -> Result<(), AllocError>
+    fn share_or_set_aside<R: Wait>(&mut self, rt: &R, stop: &FirstStop) -> Result<(), AllocError>
         requires { IsAtWork N.events N.offers self.old }
         ensures { OnOk result (Moves N.events N.offers self.old self.new) }
     {
         if self.waits_in_vain(rt, stop) {
             return self.set_aside();
         }
-        if split || self.offers_none() {
+        if self.offers_none() {
             self.share_one()?;
         }
         Ok(())
@@ -274,9 +253,9 @@ impl<X: Splitter, N: Named<X::Task, X::Leaf>> Home<X, N> {
         requires free { self.old.events ≡ [] }
         ensures { OnOk result (Works N.events N.offers (X.step splitter.now) self.old self.new) }
     {
-        let split = self.turn(splitter)?;
+        self.turn(splitter)?;
         self.tell_stop(rt, stop);
-        self.share_or_set_aside(rt, stop, split)?;
+        self.share_or_set_aside(rt, stop)?;
         Ok(())
     }
 

@@ -15,7 +15,7 @@ use split_paths::{Named, Splitter};
 use std::alloc::{AllocError, Global};
 
 /// How many offers may be made on one deck.
-const DECK_ROOM: u32 = 16384;
+const DECK_ROOM: u32 = 4096;
 
 /// A deck for each of so many workers, and of each deck a thief for each other worker.
 pub(crate) fn new_decks<X: Splitter, N: Named<X::Task, X::Leaf>>(

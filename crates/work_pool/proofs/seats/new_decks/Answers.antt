@@ -9,7 +9,7 @@ use Rattle.work_pool.proofs.seats.new_decks.Goals as goal
 
 pub loop-preserved : goal.loop-preserved
 loop-preserved g c =
-    let new : IsNewDeck c.in-Ok.owner c.in-Ok.thieves.items 16384 (c.args.workers - 1) = c.in-Ok.ensures in
+    let new : IsNewDeck c.in-Ok.owner c.in-Ok.thieves.items _ (c.args.workers - 1) = c.in-Ok.ensures in
     let pushed : c.push.new.self ≡ c.loop.owners ++ c.in-Ok.owner ∷ [] = c.in_ok-push.ensures.ok in
     let rows : c.push_row.new.rows.items ≡ c.loop.columns.items ++ c.in-Ok.thieves.items ∷ [] = c.in_ok-push_row.ensures in
     let grown = ap length pushed ∙ length-append c.loop.owners (c.in-Ok.owner ∷ []) in

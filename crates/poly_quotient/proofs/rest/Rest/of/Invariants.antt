@@ -1,6 +1,6 @@
 -- The places so far are those of the first terms.
 use Rattle.std.proofs.Common.{◌≡◌, ◌<◌, All, map, take, length}
-use Rattle.poly_quotient.specs.Rests.{term_at}
+use Rattle.sparse_poly.specs.Keys.{term_at}
 use Rattle.poly_quotient.proofs.rest.Rest.of.Given as goal
 
 abbrev pub invariant-loop-j : goal.invariant-loop-j

@@ -22,8 +22,8 @@ returns-in-Ok-Quiet g c =
     (rw c.in-Ok-Quiet.field-0-is at c.in-Ok-Quiet.ensures.waits)
     (rw c.in-Ok-Quiet.field-0-is at c.in-Ok-Quiet.ensures.events)
 
-pub returns-after-matches : goal.returns-after-matches
-returns-after-matches g c =
+pub returns-in-Ok-Event : goal.returns-in-Ok-Event
+returns-in-Ok-Event g c =
     met_event _ _ _ _ c.self.view_is c.requires.desk _ _ c.requires.key c.in-Some.generator c.turn.new.self c.self.inside.aside c.in-Ok-Event.event
     (ap (λ g. option_to_list g ++ c.self.inside.aside) (sym c.take.ensures.value ∙ c.in-Some.is)) c.requires.free
     (rw c.in-Ok-Event.field-0-is at c.in-Ok-Event.ensures.waits)

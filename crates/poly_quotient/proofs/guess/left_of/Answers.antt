@@ -4,7 +4,7 @@ use Rattle.mono_words.specs.declared.mono.TheConstants.{VARS}
 use Rattle.polynomials.specs.Equalities.{same_polynomial_decides}
 use Rattle.polynomials.specs.Polynomials.{difference_of}
 use Rattle.poly_quotient.proofs.BegunDivisions.{difference_of_itself}
-use Rattle.poly_quotient.proofs.boxed.left_of.Goals as goal
+use Rattle.poly_quotient.proofs.guess.left_of.Goals as goal
 
 pub returns-then-eq : goal.returns-then-eq
 returns-then-eq c =

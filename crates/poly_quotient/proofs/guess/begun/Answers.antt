@@ -6,7 +6,7 @@ use Rattle.polynomials.specs.Polynomials.{Polynomial, IsPolynomial, StartsBelow,
 use Rattle.polynomials.specs.Fits.{fits}
 use Rattle.poly_quotient.proofs.Clauses.{some_then_true}
 use Rattle.poly_quotient.proofs.BegunDivisions.{first_is, division_begun}
-use Rattle.poly_quotient.proofs.boxed.begun.Goals as goal
+use Rattle.poly_quotient.proofs.guess.begun.Goals as goal
 
 pub returns-then-starts_below-clause-division : goal.returns-then-starts_below-clause-division
 returns-then-starts_below-clause-division c = λ u g whole.
