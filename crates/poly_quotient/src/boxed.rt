@@ -25,6 +25,7 @@ pub fn divided_in_box(
             *sum = t.1 as u64;
         }
     }
+    let mut last = (frame.first_monomial(end.turned), 0_usize);
     for k in (0..sums.len()).rev() {
         let sum = match sums.get(k) {
             Some(sum) => *sum,
@@ -34,9 +35,10 @@ pub fn divided_in_box(
         if c != 0 {
             // Only here is a monomial needed, so that it is found back from its place.
             let start = k.wrapping_add(end.floor).wrapping_sub(end.lead);
-            let Some(monomial) = frame.monomial_at(start, end.turned) else {
+            let Some(monomial) = frame.monomial_near(last, start, end.turned) else {
                 return Ok((quotient, false));
             };
+            last = (monomial, start);
             let t = (monomial, f.residue(c as u64 * end.inverse as u64));
             runs.add_multiple(&mut sums, start, end.floor, f.neg(t.1));
             quotient.push(t)?;

@@ -104,6 +104,30 @@ impl Frame {
         Ok(Some(end))
     }
 
+    /// The monomial at the place 0 of the quotient.
+    pub fn first_monomial(&self, turned: bool) -> Mono {
+        if turned { self.room } else { Mono::one() }
+    }
+
+    /// The monomial at a place of the quotient, where the quotient can have it. Mostly it is that of
+    /// another place by a power of the least variable: dividing takes more time.
+    pub fn monomial_near(&self, near: (Mono, usize), k: usize, turned: bool) -> Option<Mono> {
+        if let Ok(steps) = u16::try_from(near.1.wrapping_sub(k)) {
+            let power = Mono::power(0, steps);
+            if turned {
+                if near.0.fits(power) {
+                    let monomial = near.0.product(power);
+                    if monomial.exponent(0) <= self.room.exponent(0) {
+                        return Some(monomial);
+                    }
+                }
+            } else if power.divides(near.0) {
+                return Some(near.0.quotient(power));
+            }
+        }
+        self.monomial_at(k, turned)
+    }
+
     /// The monomial at a place of the quotient, where the quotient can have it.
     pub fn monomial_at(&self, k: usize, turned: bool) -> Option<Mono> {
         let k = if turned {

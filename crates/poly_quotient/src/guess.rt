@@ -1,4 +1,4 @@
-ghost use Rattle.std.specs.Prelude.{◌≡◌, ◌≢◌, ◌<◌, true, [], ◌∷◌, All, IfOk, IfSome, IsTrue};
+ghost use Rattle.std.specs.Prelude.{◌≡◌, ◌≢◌, ◌<◌, true, [], ◌∷◌, IfOk, IfSome, IsTrue};
 ghost use Rattle.polynomials.specs.Polynomials.{Term, Polynomial, StartsBelow, IsPolynomial, difference_of};
 ghost use Rattle.polynomials.specs.Fits.{fits};
 ghost use Rattle.division_rules.proofs.Divisions.{IsDivision};
@@ -50,7 +50,10 @@ pub fn begun(
     let Some(terms) = guessed(alloc, Work { field, width }, a, b, room)? else {
         return Ok(None);
     };
-    let quotient = Poly::from_terms(alloc, field, &terms)?;
+    if !is_canonical(field, &terms) {
+        return Ok(None);
+    }
+    let quotient = Poly::over(field, terms);
     if quotient.is_zero() {
         return Ok(None);
     }
@@ -66,6 +69,23 @@ pub fn begun(
     } else {
         Ok(None)
     }
+}
+
+/// Whether the terms are those of a polynomial over the field, in their order.
+fn is_canonical(f: Field, terms: &[(Mono, u32)]) -> bool
+    ensures { IsTrue result → IsPolynomial f VARS terms.now }
+{
+    let prime = f.prime();
+    let mut rest = terms;
+    while let Some((first, later)) = rest.split_first() {
+        // Tells how many exponents it has.
+        first.0.shape();
+        if first.1 == 0 || first.1 >= prime || !starts_below(later, first.0) {
+            return false;
+        }
+        rest = later;
+    }
+    true
 }
 
 /// `a` without `product`: mostly they are the same, and nothing is left.
@@ -100,7 +120,6 @@ fn guessed(
     room: Mono,
 ) -> Result<Option<Vec<(Mono, u32)>>, AllocError>
     requires { IsPolynomial w.field VARS b.now }
-    ensures { IfOk result (λ r. IfSome r (λ q. All (λ t. t.1 < w.field) q.items)) }
 {
     let f = w.field;
     if a.term_count() < FEWEST_TERMS || !may_begin(f, a.terms(), b.terms(), room) {
@@ -125,11 +144,11 @@ fn guessed(
     if whole && middle != 0 {
         if let Some(end) = frame.lower(alloc, f, a, b, middle)? {
             if let (lesser, true) = divided_from(alloc, f, &frame, &end)? {
-                return Ok(Some(joined(alloc, f, &greater, &lesser)?));
+                return Ok(Some(joined(greater, &lesser)?));
             }
         }
     }
-    Ok(Some(joined(alloc, f, &greater, &[])?))
+    Ok(Some(greater))
 }
 
 /// How many places may have a sum each, where so many terms are on them.
@@ -153,17 +172,12 @@ fn divided_from(
 
 /// The terms of both halves: of the lesser one the least come first.
 fn joined(
-    alloc: Global,
-    f: Field,
-    greater: &[(Mono, u32)],
+    greater: Vec<(Mono, u32)>,
     lesser: &[(Mono, u32)],
-) -> Result<Vec<(Mono, u32)>, AllocError>
-    ensures { IfOk result (λ q. All (λ t. t.1 < f) q.items) }
-{
-    let count = greater.len().saturating_add(lesser.len());
-    let mut quotient = Vec::with_capacity(alloc, count)?;
-    for t in greater.iter().chain(lesser.iter().rev()) {
-        quotient.push((t.0, f.residue(t.1 as u64)))?;
+) -> Result<Vec<(Mono, u32)>, AllocError> {
+    let mut quotient = greater;
+    for t in lesser.iter().rev() {
+        quotient.push(*t)?;
     }
     Ok(quotient)
 }

@@ -49,7 +49,7 @@ impl<'a> Rest<'a> {
         ensures products { IfOk result (λ r. AreProducts f VARS quotient.now divisor.now
             (heap_items r.products.heap) r.products.waiting.items) }
     {
-        let mut waiting = Vec::new(alloc);
+        let mut waiting = Vec::with_capacity(alloc, divisor.len())?;
         for j in 0..divisor.len() as u32 {
             waiting.push(j)?;
         }

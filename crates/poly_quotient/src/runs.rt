@@ -25,6 +25,13 @@ struct Run {
 /// Terms of falling places, in runs where these are long.
 pub fn runs_of(alloc: Global, places: &[(usize, u32)]) -> Result<Runs, AllocError> {
     let mut runs = Vec::new(alloc);
+    if runs_in(places).saturating_mul(LONG_RUN) > places.len() {
+        return Ok(Runs {
+            places,
+            runs,
+            coefficients: Vec::new(alloc),
+        });
+    }
     let mut coefficients = Vec::with_capacity(alloc, places.len())?;
     let none = Run {
         least: 0,
@@ -46,14 +53,24 @@ pub fn runs_of(alloc: Global, places: &[(usize, u32)]) -> Result<Runs, AllocErro
         coefficients.push(u.1)?;
     }
     runs.push(run)?;
-    if runs.len().saturating_mul(LONG_RUN) > places.len() {
-        runs.clear();
-    }
     Ok(Runs {
         places,
         runs,
         coefficients,
     })
+}
+
+/// How many runs there are.
+fn runs_in(places: &[(usize, u32)]) -> usize {
+    let mut count: usize = 1;
+    let mut least: usize = 0;
+    for u in places {
+        if u.0.wrapping_add(1) != least {
+            count = count.wrapping_add(1);
+        }
+        least = u.0;
+    }
+    count
 }
 
 impl Runs<'_> {

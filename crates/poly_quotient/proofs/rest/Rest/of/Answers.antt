@@ -5,7 +5,7 @@ use Rattle.poly_quotient.proofs.EntryTurns.{all_wait, wait_none, wait_more, wait
 use Rattle.poly_quotient.proofs.rest.Rest.of.Goals as goal
 
 pub loop-j-init : goal.loop-j-init
-loop-j-init c = wait_none c.args.divisor.now c.new-waiting.result.items c.new-waiting.ensures.items
+loop-j-init c = wait_none c.args.divisor.now c.in_ok-waiting.waiting.items c.in_ok-waiting.ensures.items
 
 pub loop-j-preserved : goal.loop-j-preserved
 loop-j-preserved c = wait_more c.args.divisor.now c.loop-j.waiting.items c.push.new.self.items c.loop-j.j c.loop-j-test.true c.in_ok-push.ensures.items c.loop-j.invariant
